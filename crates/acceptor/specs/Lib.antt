@@ -1,0 +1,4 @@
+pub mod Rules
+pub mod Contract
+pub mod Laws
+pub mod Outcomes

@@ -1,0 +1,6 @@
+pub mod Ballots
+pub mod Message
+pub mod Errors
+pub mod Limits
+pub mod Refusals
+pub mod Answers

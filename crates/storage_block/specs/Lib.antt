@@ -1,0 +1,6 @@
+pub mod Block
+pub mod Rows
+pub mod Stores
+pub mod Read
+pub mod Written
+pub mod Change

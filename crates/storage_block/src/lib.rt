@@ -1,0 +1,222 @@
+// One register as a block of 512 bytes: what a block is, what it holds, and how one is written. specs/Block.antt has 01's section line by line.
+use messages::Ballot;
+use messages::KEY_MOST;
+use messages::OptionValue;
+use messages::VALUE_MOST;
+ghost use mathlib.Core.Path.{_≡_};
+ghost use mathlib.Core.Bool.{true};
+ghost use Prim.Native.Nat.{_≤_};
+ghost use lib.ListN.{length, take, replicate};
+ghost use Rattle.messages.specs.Message.{given};
+ghost use Rattle.messages.specs.Answers.{marked, bytesOf};
+ghost use Rattle.messages.specs.Limits.{keyMost, valueMost};
+ghost use Rattle.storage_block.specs.Block.{
+  blockBytes,
+  headGood,
+  restZero,
+  sumsGood,
+  readable,
+  stateOf,
+  registerOf,
+  markByte,
+  front,
+  sealed,
+  image,
+  register,
+};
+
+pub const BLOCK: usize = 512;
+
+pub enum BlockState {
+    Free,
+    Good,
+    Bad,
+}
+
+fn head_good(b: &[u8]) -> bool
+    requires { ⌜ length (now b) ≡ blockBytes ⌝ }
+    ensures { λ r. ⌜ r ≡ headGood (now (b .entry)) ⌝ }
+{
+    if b[0] != 1 {
+        return false;
+    }
+    if KEY_MOST < b[1] as usize {
+        return false;
+    }
+    if 1 < b[2] {
+        return false;
+    }
+    let most = VALUE_MOST * (b[2] as usize);
+    let len = leaf_fields::get16(b, 4) as usize;
+    if most < len {
+        return false;
+    }
+    let seen = Ballot(leaf_fields::get64(b, 8));
+    let accepted = Ballot(leaf_fields::get64(b, 16));
+    !accepted.above(seen)
+}
+
+fn rest_zero(b: &[u8]) -> bool
+    requires { ⌜ length (now b) ≡ blockBytes ⌝ }
+    requires { ⌜ headGood (now b) ≡ true ⌝ }
+    ensures { λ r. ⌜ r ≡ restZero (now (b .entry)) ⌝ }
+{
+    if b[3] != 0 {
+        return false;
+    }
+    if !leaf_fields::zeros(&b[6..8]) {
+        return false;
+    }
+    let key_end = 24 + b[1] as usize;
+    if !leaf_fields::zeros(&b[key_end..88]) {
+        return false;
+    }
+    let value_end = 88 + leaf_fields::get16(b, 4) as usize;
+    leaf_fields::zeros(&b[value_end..504])
+}
+
+fn sums_good(b: &[u8]) -> bool
+    requires { ⌜ length (now b) ≡ blockBytes ⌝ }
+    ensures { λ r. ⌜ r ≡ sumsGood (now (b .entry)) ⌝ }
+{
+    let formed = leaf_sums::form(&b[0..504]);
+    let plain = leaf_fields::get32(b, 504);
+    let placed = leaf_fields::get32(b, 508);
+    if plain != formed.plain {
+        return false;
+    }
+    placed == formed.placed
+}
+
+// Whether a block is free, good, or neither.
+pub fn state(b: &[u8]) -> BlockState
+    requires { ⌜ length (now b) ≡ blockBytes ⌝ }
+    ensures { λ r. ⌜ r ≡ stateOf (now (b .entry)) ⌝ }
+{
+    if leaf_fields::zeros(b) {
+        return BlockState::Free;
+    }
+    if !head_good(b) {
+        return BlockState::Bad;
+    }
+    if !rest_zero(b) {
+        return BlockState::Bad;
+    }
+    if sums_good(b) {
+        BlockState::Good
+    } else {
+        BlockState::Bad
+    }
+}
+
+pub fn highest_seen(b: &[u8]) -> Ballot
+    requires { ⌜ length (now b) ≡ blockBytes ⌝ }
+    ensures { λ r. ⌜ r ≡ registerOf (now (b .entry)) .seen ⌝ }
+{
+    Ballot(leaf_fields::get64(b, 8))
+}
+
+pub fn accepted_ballot(b: &[u8]) -> Ballot
+    requires { ⌜ length (now b) ≡ blockBytes ⌝ }
+    ensures { λ r. ⌜ r ≡ registerOf (now (b .entry)) .accepted ⌝ }
+{
+    Ballot(leaf_fields::get64(b, 16))
+}
+
+// Whether a value is present.
+pub fn value_mark(b: &[u8]) -> OptionValue
+    requires { ⌜ length (now b) ≡ blockBytes ⌝ }
+    ensures { λ r. ⌜ r ≡ marked (registerOf (now (b .entry)) .value) ⌝ }
+{
+    if b[2] == 0 {
+        OptionValue::None
+    } else {
+        OptionValue::Some
+    }
+}
+
+// The value's bytes, as a part of the block; none for no value.
+pub fn value_bytes(b: &[u8]) -> &[u8]
+    requires { ⌜ length (now b) ≡ blockBytes ⌝ }
+    requires { ⌜ readable (now b) ≡ true ⌝ }
+    ensures { λ r. ⌜ now r ≡ bytesOf (registerOf (now (b .entry)) .value) ⌝ }
+{
+    let end = 88 + leaf_fields::get16(b, 4) as usize;
+    &b[88..end]
+}
+
+fn mark_byte(value: OptionValue) -> u8
+    ensures { λ r. ⌜ r ≡ markByte value ⌝ }
+{
+    match value {
+        OptionValue::None => 0,
+        OptionValue::Some => 1,
+    }
+}
+
+// The bytes of a value that may be missing: none where it is.
+fn present(value: OptionValue, bytes: &[u8]) -> &[u8]
+    ensures { λ r. ⌜ now r ≡ bytesOf (given value (now (bytes .entry))) ⌝ }
+{
+    match value {
+        OptionValue::None => &bytes[0..0],
+        OptionValue::Some => bytes,
+    }
+}
+
+// Bytes 0 to 23 of a block that is zero so far.
+fn write_front(
+    b: &mut [u8],
+    keylen: usize,
+    seen: Ballot,
+    accepted: Ballot,
+    value: OptionValue,
+    len: usize,
+)
+    requires { ⌜ (now b ≡ replicate 24 0) × (keylen ≤ keyMost) × (len ≤ valueMost) ⌝ }
+    ensures { λ _. ⌜ now (b .exit) ≡ front keylen seen accepted value len ⌝ }
+{
+    leaf_fields::put(b, 4, 2, len as u64);
+    leaf_fields::put(b, 8, 8, seen.0);
+    leaf_fields::put(b, 16, 8, accepted.0);
+    b[0] = 1;
+    b[1] = keylen as u8;
+    b[2] = mark_byte(value);
+}
+
+// The two sums of bytes 0 to 503, stored behind them.
+fn seal(b: &mut [u8])
+    requires { ⌜ length (now b) ≡ blockBytes ⌝ }
+    ensures { λ _. ⌜ now (b .exit) ≡ sealed (take 504 (now (b .entry))) ⌝ }
+{
+    let formed = leaf_sums::form(&b[0..504]);
+    leaf_fields::put(b, 504, 4, formed.plain as u64);
+    leaf_fields::put(b, 508, 4, formed.placed as u64);
+}
+
+// A register's block, whatever the 512 bytes held.
+pub fn write(
+    b: &mut [u8],
+    key: &[u8],
+    seen: Ballot,
+    accepted: Ballot,
+    value: OptionValue,
+    bytes: &[u8],
+)
+    requires { ⌜ (length (now b) ≡ blockBytes) × (length (now key) ≤ keyMost) × (length (bytesOf (given value (now bytes))) ≤ valueMost) ⌝ }
+    ensures { λ _. ⌜ now (b .exit) ≡ image (register (now (key .entry)) seen accepted (given value (now (bytes .entry)))) ⌝ }
+{
+    let stored = present(value, bytes);
+    leaf_fields::clear(b);
+    write_front(
+        &mut b[0..24],
+        key.len(),
+        seen,
+        accepted,
+        value,
+        stored.len(),
+    );
+    leaf_fields::copy(b, 24, key);
+    leaf_fields::copy(b, 88, stored);
+    seal(b);
+}
