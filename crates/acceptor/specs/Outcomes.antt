@@ -25,10 +25,10 @@ use Rattle.storage_block.specs.declared.BlockState.{BlockState}
 use Rattle.storage_block.specs.Block.{Slot, free, used, bad, Register, fresh, readable, registerOf, registerWith, good, stateOf, slotBy, slotOf, image, blockBytes}
 use Rattle.storage_block.specs.Read.{free-register, value-fits}
 use Rattle.storage_search.specs.declared.Found.{Found}
-use Rattle.storage_search.specs.Table.{isSized, noneBad, isBad, blockAt, withBlock, slots, whereIs, registerIn, registerBy, Lent}
+use Rattle.storage_search.specs.Table.{isSized, noneBad, isBad, blockAt, withBlock, slots, whereIs, isTwice, registerIn, registerBy, Lent}
 use Rattle.storage_search.specs.Blocks.{sized-of, room-for, length-block}
 use Rattle.storage_search.specs.Laws.{length-slots, slot-at, sound-at, where-at, where-free, Held, held-at}
-use Rattle.acceptor.specs.Rules.{Work, proposed, accepted, Job, jobOf, Store, keep, put, Outcome, outcome, workOn, isTwice, unless, receive}
+use Rattle.acceptor.specs.Rules.{Work, proposed, accepted, Job, jobOf, Store, keep, put, Outcome, outcome, workOn, unless, receive}
 use Rattle.acceptor.specs.Laws.{value-back}
 use Rattle.acceptor.specs.Contract.{outcomeOn, stored, Received, Ready, Placed, fullAnswer}
 

@@ -14,7 +14,7 @@ use Rattle.messages.specs.Refusals.{Test, test, firstDue}
 use Rattle.messages.specs.Answers.{Told, one, refused}
 use Rattle.storage_block.specs.Block.{Slot, Register, register}
 use Rattle.storage_search.specs.declared.Found.{Found}
-use Rattle.storage_search.specs.Table.{noneBad, whereIs, registerBy}
+use Rattle.storage_search.specs.Table.{noneBad, whereIs, isTwice, isFull, registerBy}
 
 -- ---- one register
 
@@ -75,18 +75,6 @@ outcome s t = record { store = s; told = t }
 -- the work of a job on the table
 unfoldable pub workOn : List Slot → Job → Work
 workOn l j = j .work (registerBy (j .key) l (whereIs (j .key) l))
-
-abbrev pub isTwice : Found → Bool
-isTwice (Found.At i) = false
-isTwice (Found.Free i) = false
-isTwice Found.Full = false
-isTwice Found.Twice = true
-
-abbrev pub isFull : Found → Bool
-isFull (Found.At i) = false
-isFull (Found.Free i) = false
-isFull Found.Full = true
-isFull Found.Twice = false
 
 -- "two blocks hold the key of the `ProposeReq` or `AcceptReq`"
 abbrev pub keyTwice : List Slot → Option Job → Bool

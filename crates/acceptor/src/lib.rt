@@ -27,16 +27,6 @@ ghost use Rattle.acceptor.specs.Contract.{answerBytes, Ready, Worked, Pl
 // The answer area: the value that an answer to a proposal carries.
 pub const ANSWER: usize = VALUE_MOST;
 
-// The block's value, copied to the front of the answer area; its length.
-fn copy_value(b: &[u8], area: &mut [u8]) -> usize
-    requires { ⌜ (length (now b) ≡ blockBytes) × (readable (now b) ≡ true) × (length (now area) ≡ answerBytes) ⌝ }
-    ensures { λ r. ⌜ (r ≡ length (bytesOf (registerOf (now (b .entry)) .value))) × (now (area .exit) ≡ sets (now (area .entry)) 0 (bytesOf (registerOf (now (b .entry)) .value))) ⌝ }
-{
-    let value = storage_block::value_bytes(b);
-    leaf_fields::copy(area, 0, value);
-    value.len()
-}
-
 // A proposal on the block that holds its key, or on a free one.
 fn propose_in(b: &mut [u8], from: Address, ballot: Ballot, key: &[u8], area: &mut [u8]) -> Answer
     requires { ⌜ (length (now b) ≡ blockBytes) × (readable (now b) ≡ true) × (length (now key) ≤ keyMost) × (length (now area) ≡ answerBytes) ⌝ }
@@ -45,7 +35,7 @@ fn propose_in(b: &mut [u8], from: Address, ballot: Ballot, key: &[u8], area: &mu
     let seen = storage_block::highest_seen(b);
     let last = storage_block::accepted_ballot(b);
     let mark = storage_block::value_mark(b);
-    let len = copy_value(b, area);
+    let len = storage_block::copy_value(b, area);
     if !ballot.above(seen) {
         return Answer::Message {
             to: from,

@@ -40,6 +40,10 @@ failureFits (Failure.AcceptRejected b) = true
 failureFits (Failure.CasFailed o) = optionFits o
 failureFits Failure.Timeout = true
 
+-- a register's key and value
+abbrev pub registerFits : Key → Option Value → Bool
+registerFits k o = keyFits k && optionFits o
+
 abbrev pub requestFits : Request → Bool
 requestFits (Request.Get k) = keyFits k
 requestFits (Request.Del k) = keyFits k
@@ -69,7 +73,7 @@ messageFits (Message.SetAcceptAcceptors l) = listFits l
 messageFits (Message.SetProposeAcceptors l) = listFits l
 messageFits (Message.ProposeReq b k) = keyFits k
 messageFits (Message.ProposeRes b a o r) = optionFits o && resultFits r
-messageFits (Message.AcceptReq b k o) = keyFits k && optionFits o
+messageFits (Message.AcceptReq b k o) = registerFits k o
 messageFits (Message.AcceptRes b r) = resultFits r
 
 unfoldable pub withinLimits : Address → Message → Bool

@@ -14,6 +14,7 @@ ghost use Rattle.messages.specs.Limits.{
   valueFits,
   optionFits,
   failureFits,
+  registerFits,
   requestFits,
   resultFits,
   responseFits,
@@ -96,6 +97,13 @@ fn req_fits(req: Req, key: &[u8], value: &[u8], other: &[u8]) -> bool
     }
 }
 
+// Whether a register's key and value are short enough.
+pub fn register_fits(key: &[u8], o: OptionValue, value: &[u8]) -> bool
+    ensures { λ r. ⌜ r ≡ registerFits (now (key .entry)) (given o (now (value .entry))) ⌝ }
+{
+    key_fits(key) && option_fits(o, value)
+}
+
 fn none_zero(list: &[u16]) -> bool
     ensures { λ r. ⌜ r ≡ noneZero (now (list .entry)) ⌝ }
 {
@@ -133,7 +141,7 @@ fn rpc_fits(rpc: Rpc, key: &[u8], value: &[u8], other: &[u8], list: &[u16]) -> b
             last_accepted_value,
             res,
         } => option_fits(last_accepted_value, value) && res_fits(res, other),
-        Rpc::AcceptReq(_, o) => key_fits(key) && option_fits(o, value),
+        Rpc::AcceptReq(_, o) => register_fits(key, o, value),
         Rpc::AcceptRes(_, res) => res_fits(res, other),
     }
 }

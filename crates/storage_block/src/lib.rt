@@ -7,6 +7,7 @@ ghost use mathlib.Core.Path.{_≡_};
 ghost use mathlib.Core.Bool.{true};
 ghost use Prim.Native.Nat.{_≤_};
 ghost use lib.ListN.{length, take, replicate};
+ghost use lib.Seq.{sets};
 ghost use Rattle.messages.specs.Message.{given};
 ghost use Rattle.messages.specs.Answers.{marked, bytesOf};
 ghost use Rattle.messages.specs.Limits.{keyMost, valueMost};
@@ -143,6 +144,16 @@ pub fn value_bytes(b: &[u8]) -> &[u8]
 {
     let end = 88 + leaf_fields::get16(b, 4) as usize;
     &b[88..end]
+}
+
+// The value's bytes, copied to the front of an area of 256 bytes; their length.
+pub fn copy_value(b: &[u8], area: &mut [u8]) -> usize
+    requires { ⌜ (length (now b) ≡ blockBytes) × (readable (now b) ≡ true) × (length (now area) ≡ valueMost) ⌝ }
+    ensures { λ r. ⌜ (r ≡ length (bytesOf (registerOf (now (b .entry)) .value))) × (now (area .exit) ≡ sets (now (area .entry)) 0 (bytesOf (registerOf (now (b .entry)) .value))) ⌝ }
+{
+    let value = value_bytes(b);
+    leaf_fields::copy(area, 0, value);
+    value.len()
 }
 
 fn mark_byte(value: OptionValue) -> u8

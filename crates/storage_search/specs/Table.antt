@@ -95,6 +95,18 @@ foundBy none none = Found.Full
 unfoldable pub whereIs : Key → List Slot → Found
 whereIs k l = cond (ltb 1 (count (holds k) l)) Found.Twice (foundBy (firstFrom (holds k) 0 l) (firstFrom isFree 0 l))
 
+abbrev pub isTwice : Found → Bool
+isTwice (Found.At i) = false
+isTwice (Found.Free i) = false
+isTwice Found.Full = false
+isTwice Found.Twice = true
+
+abbrev pub isFull : Found → Bool
+isFull (Found.At i) = false
+isFull (Found.Free i) = false
+isFull Found.Full = true
+isFull Found.Twice = false
+
 abbrev pub registerIn : Key → Slot → Register
 registerIn k free = fresh k
 registerIn k (used r) = r

@@ -57,11 +57,8 @@ res-fits-requires c κs = search needs
 enum-known-rpc-4 : tie.Need-enum-known-rpc-4
 enum-known-rpc-4 c = search needs
 
-key-fits-requires-2 : tie.Need-key-fits-requires-2
-key-fits-requires-2 c κs = search needs
-
-option-fits-requires-2 : tie.Need-option-fits-requires-2
-option-fits-requires-2 c κs = search needs
+register-fits-requires : tie.Need-register-fits-requires
+register-fits-requires c κs = search needs
 
 enum-known-rpc-5 : tie.Need-enum-known-rpc-5
 enum-known-rpc-5 c = search needs
@@ -91,13 +88,10 @@ returns-7 : tie.Need-returns-7
 returns-7 c = search (matched, and-first)
 
 returns-8 : tie.Need-returns-8
-returns-8 c = search (matched, and-second)
+returns-8 c = search matched
 
 returns-9 : tie.Need-returns-9
-returns-9 c = search (matched, and-first)
-
-returns-10 : tie.Need-returns-10
-returns-10 c = search matched
+returns-9 c = search matched
 
 pub rpc-fits-spec : {M : Type 1} → statement M
 rpc-fits-spec =
@@ -117,8 +111,7 @@ rpc-fits-spec =
     option-fits-requires
     res-fits-requires
     enum-known-rpc-4
-    key-fits-requires-2
-    option-fits-requires-2
+    register-fits-requires
     enum-known-rpc-5
     res-fits-requires-2
     returns
@@ -129,5 +122,4 @@ rpc-fits-spec =
     returns-6
     returns-7
     returns-8
-    returns-9
-    returns-10)
+    returns-9)

@@ -1,4 +1,4 @@
--- `acceptor::copy_value` meets its contract: the value fits the area, and all of it is copied.
+-- `storage_block::copy_value` meets its contract: the value fits the area, and all of it is copied.
 -- Assumes nothing.
 use mathlib.Core.Path.{_≡_, ap}
 use mathlib.Core.Bool.{true}
@@ -7,12 +7,12 @@ use Prim.Native.Nat.{ℕ, _+_, _≤_}
 use lib.ListN.{length}
 use lib.Seq.{sets}
 use Rattle.messages.specs.Answers.{bytesOf}
 use Rattle.storage_block.specs.Block.{readable, registerOf}
 use Rattle.storage_block.specs.Read.{value-fits}
 use borrow.Author.Needs.{needs}
 use native.Mathlib.Omega.{arith}
-use Rattle.acceptor.proofs.copy_value.Statement.{statement}
-use Rattle.acceptor.proofs.copy_value.Tie as tie
+use Rattle.storage_block.proofs.copy_value.Statement.{statement}
+use Rattle.storage_block.proofs.copy_value.Tie as tie
 
 room : (b v a : List ℕ) → length b ≡ 512 → readable b ≡ true → v ≡ bytesOf (registerOf b .value) → length a ≡ 256 → 0 + length v ≤ length a
 room b v a l h e la = omega (arith, value-fits b l h, ap length e)
