@@ -12,7 +12,7 @@ use Rattle.messages.specs.declared.answer.Refusal.{Refusal}
 use Rattle.messages.specs.Message.{Message}
 use Rattle.messages.specs.Limits.{valueMost, withinLimits}
 use Rattle.messages.specs.Refusals.{Test, test, firstDue}
-use Rattle.messages.specs.Answers.{Told, one, refused, said, answerOf, writtenIn}
+use Rattle.messages.specs.Answers.{one, said, answerOf, writtenIn}
 use Rattle.storage_block.specs.Block.{image}
 use Rattle.storage_search.specs.Table.{isSized, Lent, withBlock, slots}
 use Rattle.acceptor.specs.Rules.{Work, Store, keep, put, Outcome, unless, receive}

@@ -2,3 +2,6 @@ pub mod Rules
 pub mod Contract
 pub mod Laws
 pub mod Outcomes
+pub mod Stores
+pub mod Dependence
+pub mod Images

@@ -1,16 +1,15 @@
 -- The outcome of a message that is for the acceptor, by where its key is, and that what the code does is that outcome.
 -- Assumes nothing.
 use mathlib.Core.Path.{_≡_, refl, sym, ap, _∙_}
-use mathlib.Core.Bool.{Bool, true, false, false≢true, not, cond, _&&_, _||_}
+use mathlib.Core.Bool.{Bool, true, false, not, cond}
 use mathlib.Core.List.{List, [], _∷_}
 use mathlib.Core.Option.{Option, none, some}
 use Prim.Native.Nat.{ℕ, _+_, _*_, _≤_, _<_}
 use native.Mathlib.Omega.{arith}
-use lib.Dec.{eqb, leb}
-use lib.ListN.{length, getD, take, drop}
+use lib.Dec.{eqb}
+use lib.ListN.{length, getD, take}
 use lib.Seq.{sets}
-use borrow.Author.Tests.{eq-eqb, ne-eqb, leb-true, le-ltb}
-use Rattle.leaf_fields.specs.Fields.{allZero}
+use borrow.Author.Tests.{eq-eqb, ne-eqb, le-ltb}
 use Rattle.leaf_fields.specs.Laws.{and-true}
 use Rattle.messages.specs.declared.Address.{Address}
 use Rattle.messages.specs.declared.Ballot.{Ballot}
@@ -18,80 +17,19 @@ use Rattle.messages.specs.declared.answer.Answer.{Answer}
 use Rattle.messages.specs.declared.answer.Refusal.{Refusal}
 use Rattle.messages.specs.Ballots.{above, notBelow}
 use Rattle.messages.specs.Message.{Key, Value, Failure, Result, Message, given, resultOf}
-use Rattle.messages.specs.Limits.{keyMost, valueMost, withinLimits, keyFits, optionFits}
+use Rattle.messages.specs.Limits.{keyMost, valueMost, messageFits, withinLimits}
+use Rattle.messages.specs.Fit.{short-key, register-key, register-value}
 use Rattle.messages.specs.Refusals.{test, firstDue}
-use Rattle.messages.specs.Answers.{Told, one, refused, said, answerOf, writtenIn, marked, bytesOf, resultRpc}
-use Rattle.storage_block.specs.declared.BlockState.{BlockState}
-use Rattle.storage_block.specs.Block.{Slot, free, used, bad, Register, fresh, readable, registerOf, registerWith, good, stateOf, slotBy, slotOf, image, blockBytes}
-use Rattle.storage_block.specs.Read.{free-register, value-fits}
+use Rattle.messages.specs.Answers.{one, refused, said, answerOf, writtenIn, marked, bytesOf, resultRpc}
+use Rattle.storage_block.specs.Block.{free, Register, fresh, readable, registerOf, registerWith, image}
+use Rattle.storage_block.specs.Stores.{value-back}
+use Rattle.storage_block.specs.Read.{value-fits}
 use Rattle.storage_search.specs.declared.Found.{Found}
-use Rattle.storage_search.specs.Table.{isSized, noneBad, isBad, blockAt, withBlock, slots, whereIs, isTwice, registerIn, registerBy, Lent}
-use Rattle.storage_search.specs.Blocks.{sized-of, room-for, length-block}
-use Rattle.storage_search.specs.Laws.{length-slots, slot-at, sound-at, where-at, where-free, Held, held-at}
-use Rattle.acceptor.specs.Rules.{Work, proposed, accepted, Job, jobOf, Store, keep, put, Outcome, outcome, workOn, unless, receive}
-use Rattle.acceptor.specs.Laws.{value-back}
+use Rattle.storage_search.specs.Table.{isSized, noneBad, blockAt, withBlock, slots, whereIs, isTwice, registerIn, registerBy, Lent}
+use Rattle.storage_search.specs.Blocks.{length-block}
+use Rattle.storage_search.specs.Keys.{place-known, place-free, room-in, readable-in, register-known, register-new}
+use Rattle.acceptor.specs.Rules.{Work, proposed, accepted, Job, jobOf, keep, put, Outcome, outcome, workOn, unless, receive}
 use Rattle.acceptor.specs.Contract.{outcomeOn, stored, Received, Ready, Placed, fullAnswer}
-
--- ---- blocks that are free or good
-
-pub readable-of : (b : List ℕ) → isBad (slotOf b) ≡ false → readable b ≡ true
-unfolding readable slotOf stateOf
-readable-of b h = go (allZero b) (good b) h
-  where
-    go : (z g : Bool) → isBad (slotBy (cond z BlockState.Free (cond g BlockState.Good BlockState.Bad)) (registerOf b)) ≡ false → (z || g) ≡ true
-    go true g h′ = refl
-    go false true h′ = refl
-    go false false h′ = absurd (false≢true (sym h′))
-
-used-register : (b : List ℕ) (r : Register) → slotOf b ≡ used r → registerOf b ≡ r
-unfolding slotOf
-used-register b r h = go (stateOf b) h
-  where
-    go : (s : BlockState) → slotBy s (registerOf b) ≡ used r → registerOf b ≡ r
-    go BlockState.Free e = cc
-    go BlockState.Good e = cc
-    go BlockState.Bad e = cc
-
-free-zeros : (b : List ℕ) → slotOf b ≡ free → allZero b ≡ true
-unfolding slotOf stateOf
-free-zeros b h = go (allZero b) (good b) h
-  where
-    go : (z g : Bool) → slotBy (cond z BlockState.Free (cond g BlockState.Good BlockState.Bad)) (registerOf b) ≡ free → z ≡ true
-    go true g e = refl
-    go false true e = cc
-    go false false e = cc
-
--- ---- the block of a key
-
-module _ (t : List ℕ) (n : ℕ) (k : Key) (i : ℕ) (lent : Lent t n) where
-  place-known : whereIs k (slots t n) ≡ Found.At i → i < n
-  place-known e = omega (arith, where-at k (slots t n) i e .0, length-slots t n)
-
-  place-free : whereIs k (slots t n) ≡ Found.Free i → i < n
-  place-free e = omega (arith, where-free k (slots t n) i e .0, length-slots t n)
-
-  room-in : i < n → i * 512 + 512 ≤ length t
-  room-in h = room-for t n i (sized-of t n (lent .sized) .bytes) h
-
-  readable-in : i < n → readable (blockAt t i) ≡ true
-  readable-in h = readable-of (blockAt t i) (sound-at t n i (lent .sound) h)
-
-  register-known : whereIs k (slots t n) ≡ Found.At i → registerIn k (getD (slots t n) i free) ≡ registerWith k (blockAt t i)
-  register-known e =
-      let w = where-at k (slots t n) i e in
-      let held = held-at k (getD (slots t n) i free) (w .1) in
-      let b = blockAt t i in
-      let at-i : slotOf b ≡ used (held .register) = sym (slot-at t n i (place-known e)) ∙ held .is-used in
-      let r : registerOf b ≡ held .register = used-register b (held .register) at-i in
-      rw (held .is-used) (with-key (held .register) (registerOf b) r (held .has-key))
-    where
-      with-key : (h r : Register) → r ≡ h → h .key ≡ k → h ≡ record { key = k; seen = r .seen; accepted = r .accepted; value = r .value }
-      with-key h r e ek = rw (e, ← ek)
-
-  register-new : whereIs k (slots t n) ≡ Found.Free i → registerWith k (blockAt t i) ≡ fresh k
-  register-new e =
-      let at-i : slotOf (blockAt t i) ≡ free = sym (slot-at t n i (place-free e)) ∙ where-free k (slots t n) i e .1 in
-      free-register k (blockAt t i) (length-block t i (room-in (place-free e))) (free-zeros (blockAt t i) at-i)
 
 -- ---- the outcome, by where the key is
 
@@ -270,21 +208,20 @@ module _ (t : List ℕ) (n : ℕ) (from : Address) (m : Message) (fits : Bool) (
   pub readable-new : found ≡ Found.Free i → readable (blockAt t i) ≡ true
   readable-new e = readable-in t n key i (ready .lent) (place-free t n key i (ready .lent) (sym ef ∙ e))
 
+-- a message within the limits
+within : (t : List ℕ) (n : ℕ) (from : Address) (m : Message) (fits : Bool) → Ready t n from m fits → fits ≡ true → messageFits m ≡ true
+unfolding withinLimits
+within t n from m fits ready f = and-true (not (eqb (from .0) 0)) (messageFits m) (sym (ready .limits) ∙ f) .1
+
 pub propose-key : (t : List ℕ) (n : ℕ) (from : Address) (b : Ballot) (k : Key) (fits : Bool) → Ready t n from (Message.ProposeReq b k) fits → fits ≡ true → length k ≤ keyMost
-unfolding withinLimits
-propose-key t n from b k fits ready f = leb-true (length k) keyMost (and-true (not (eqb (from .0) 0)) (keyFits k) (sym (ready .limits) ∙ f) .1)
+propose-key t n from b k fits ready f = short-key k (within t n from (Message.ProposeReq b k) fits ready f)
 
-pub accept-key : (t : List ℕ) (n : ℕ) (from : Address) (b : Ballot) (k : Key) (o : Option Value) (fits : Bool) → Ready t n from (Message.AcceptReq b k o) fits → fits ≡ true → length k ≤ keyMost
-unfolding withinLimits
-accept-key t n from b k o fits ready f = leb-true (length k) keyMost (and-true (keyFits k) (optionFits o) (and-true (not (eqb (from .0) 0)) (keyFits k && optionFits o) (sym (ready .limits) ∙ f) .1) .0)
+module _ (t : List ℕ) (n : ℕ) (from : Address) (b : Ballot) (k : Key) (o : Option Value) (fits : Bool) (ready : Ready t n from (Message.AcceptReq b k o) fits) (f : fits ≡ true) where
+  pub accept-key : length k ≤ keyMost
+  accept-key = register-key k o (within t n from (Message.AcceptReq b k o) fits ready f)
 
-pub accept-value : (t : List ℕ) (n : ℕ) (from : Address) (b : Ballot) (k : Key) (o : Option Value) (fits : Bool) → Ready t n from (Message.AcceptReq b k o) fits → fits ≡ true → length (bytesOf o) ≤ valueMost
-unfolding withinLimits
-accept-value t n from b k o fits ready f = go o (and-true (keyFits k) (optionFits o) (and-true (not (eqb (from .0) 0)) (keyFits k && optionFits o) (sym (ready .limits) ∙ f) .1) .1)
-  where
-    go : (o : Option Value) → optionFits o ≡ true → length (bytesOf o) ≤ valueMost
-    go none h = omega arith
-    go (some v) h = leb-true (length v) valueMost h
+  pub accept-value : length (bytesOf o) ≤ valueMost
+  accept-value = register-value k o (within t n from (Message.AcceptReq b k o) fits ready f)
 
 -- ---- the refusals that need no search
 

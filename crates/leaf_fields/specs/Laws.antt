@@ -1,6 +1,6 @@
 -- The laws of fields: what is stored is read back, at any width, and every other field is as it was.
 -- Assumes nothing.
-use mathlib.Core.Path.{_≡_, refl, sym, ap, _∙_}
+use mathlib.Core.Path.{_≡_, refl, ap, _∙_}
 use mathlib.Core.Bool.{Bool, true, false, false≢true, cond, _&&_}
 use mathlib.Core.List.{List, [], _∷_, _++_}
 use Prim.Native.Nat.{ℕ, zero, suc, _+_, _-_, _*_, _/_, _%_, _^_, _≤_, _<_}
@@ -9,7 +9,7 @@ use native.Mathlib.Omega.{arith}
 use native.Mathlib.Decide.{ℕ-discrete}
 use borrow.Author.Tests.{eqb-true}
 use lib.Dec.{lit<, eqb}
-use lib.ListN.{length, getD, take, drop, set, replicate, length-take, length-drop, length-append}
+use lib.ListN.{length, take, drop, set, replicate, length-take, length-drop, length-append}
 use lib.Seq.{sets, sets-eq, drop-cons, getD-drop, getD-set-same, getD-set-other, drop-at, take-at, take-set-le, drop-set-lt, drop-set-add, drop-append-le}
 use Rattle.leaf_fields.specs.Fields.{fromLe, toLe, part, byte, allZero, Bytes}
 

@@ -2,12 +2,11 @@
 -- Assumes nothing.
 use mathlib.Core.List.{List, [], _∷_, _++_}
 use mathlib.Core.Option.{Option, none, some}
-use Prim.Native.Nat.{ℕ, zero, suc, _+_, _*_}
-use lib.ListN.{length, take, drop}
+use Prim.Native.Nat.{ℕ, zero, suc, _+_}
+use lib.ListN.{length, take}
 use lib.Seq.{sets}
 use Rattle.leaf_fields.specs.Fields.{fromLe, toLe, part}
 use Rattle.messages.specs.declared.Address.{Address}
-use Rattle.messages.specs.declared.Ballot.{Ballot}
 use Rattle.messages.specs.declared.OptionValue.{OptionValue}
 use Rattle.messages.specs.declared.Req.{Req}
 use Rattle.messages.specs.declared.Error.{Error}

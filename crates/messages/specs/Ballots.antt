@@ -1,7 +1,6 @@
 -- Ballots, and the one way to compare them. No other definition looks inside a ballot to compare it.
 -- Assumes nothing.
 use mathlib.Core.Bool.{Bool, not}
-use Prim.Native.Nat.{ℕ}
 use lib.Dec.{ltb}
 use Rattle.messages.specs.declared.Ballot.{Ballot}
 

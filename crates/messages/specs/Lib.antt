@@ -4,3 +4,4 @@ pub mod Errors
 pub mod Limits
 pub mod Refusals
 pub mod Answers
+pub mod Fit

@@ -1,12 +1,12 @@
 -- 01's register block: the register that a block holds, what a free and a good block is, and the bytes of a register.
 -- Assumes nothing.
 use mathlib.Core.Path.{_≡_}
-use mathlib.Core.Bool.{Bool, true, false, not, cond, _&&_, _||_}
-use mathlib.Core.List.{List, [], _∷_, _++_}
+use mathlib.Core.Bool.{Bool, false, not, cond, _&&_, _||_}
+use mathlib.Core.List.{List, _∷_, _++_}
 use mathlib.Core.Option.{Option, none, some}
 use Prim.Native.Nat.{ℕ, _+_, _-_, _*_, _^_, _≤_, _<_}
 use lib.Dec.{eqb, leb}
-use lib.ListN.{length, take, drop, replicate}
+use lib.ListN.{length, replicate}
 use Rattle.leaf_fields.specs.Fields.{fromLe, toLe, part, span, byte, allZero, Bytes}
 use Rattle.leaf_sums.specs.Sums.{plainSum, placedSum}
 use Rattle.messages.specs.Ballots.{ballot0, above}

@@ -1,12 +1,16 @@
--- Stores into joined rows, and into zeros.
+-- Stores into joined rows and into zeros; a value that is stored and found again.
 -- Assumes nothing.
 use mathlib.Core.Path.{_≡_, refl, sym, ap, _∙_}
 use mathlib.Core.List.{List, [], _∷_, _++_}
-use Prim.Native.Nat.{ℕ, zero, suc, _+_, _-_, _≤_, _<_}
+use mathlib.Core.Option.{Option, none, some}
+use Prim.Native.Nat.{ℕ, zero, suc, _+_, _-_, _≤_}
 use native.Mathlib.Nat.{zero-add, suc-add}
 use native.Mathlib.Omega.{arith}
 use lib.ListN.{length, take, drop, set, replicate, length-set, length-replicate}
 use lib.Seq.{sets, sets-eq, set-append-left}
+use Rattle.leaf_fields.specs.Laws.{part-same}
+use Rattle.messages.specs.Message.{Value, given}
+use Rattle.messages.specs.Answers.{marked, bytesOf}
 use Rattle.storage_block.specs.Block.{padded}
 
 pub sets-left : (a b vs : List ℕ) (i : ℕ) → i + length vs ≤ length a → sets (a ++ b) i vs ≡ sets a i vs ++ b
@@ -43,3 +47,8 @@ sets-zeros n vs h =
     let room : 0 + length vs ≤ length z = omega (arith, length-replicate {A = ℕ} n 0) in
     let e : 0 + length vs ≡ length vs = omega arith in
     sets-eq vs z 0 room ∙ ap (λ (k : ℕ). vs ++ drop k z) e ∙ ap (λ (r : List ℕ). vs ++ r) (drop-zeros (length vs) n)
+
+-- a value that was copied to the front of an area is found there again
+pub value-back : (o : Option Value) (a : List ℕ) → length (bytesOf o) ≤ length a → given (marked o) (take (length (bytesOf o)) (sets a 0 (bytesOf o))) ≡ o
+value-back none a h = refl
+value-back (some v) a h = ap some (part-same a 0 v (omega arith))

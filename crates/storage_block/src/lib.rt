@@ -52,8 +52,8 @@ fn head_good(b: &[u8]) -> bool
     if most < len {
         return false;
     }
-    let seen = Ballot(leaf_fields::get64(b, 8));
-    let accepted = Ballot(leaf_fields::get64(b, 16));
+    let seen = highest_seen(b);
+    let accepted = accepted_ballot(b);
     !accepted.above(seen)
 }
 

@@ -10,7 +10,7 @@ use native.Mathlib.Decide.{decLt}
 use borrow.Author.Tests.{eqb-true, leb-true, ltb-true, eq-eqb}
 use borrow.Rule.Slice.PartMut.{putMid}
 use lib.Dec.{eqb, leb, ltb}
-use lib.ListN.{length, take, drop, length-take, length-drop, length-append}
+use lib.ListN.{length, take, drop, length-take, length-drop, length-append, take-append-drop}
 use lib.Seq.{take-nil, drop-nil, take-at, drop-at, take-take, drop-drop, take-append-le, drop-append-le, drop-append-add, getD-take, getD-drop}
 use Rattle.leaf_fields.specs.Fields.{byte}
 use Rattle.leaf_fields.specs.Laws.{and-true}
@@ -136,3 +136,11 @@ pub same-refl : (l : List ℕ) → same l l ≡ true
 unfolding same
 same-refl [] = refl
 same-refl (x ∷ l) = rw (eq-eqb x x refl) (same-refl l)
+
+-- a block replaced by itself
+pub same-block : (t : List ℕ) (i : ℕ) → withBlock t i (blockAt t i) ≡ t
+unfolding withBlock blockAt
+same-block t i = ap (λ (r : List ℕ). take (i * blockBytes) t ++ r) (take-append-drop blockBytes (drop (i * blockBytes) t)) ∙ take-append-drop (i * blockBytes) t
+
+pub lent-length : (t : List ℕ) (i : ℕ) → i * 512 + 512 ≤ length t → length (take (i * 512 + 512 - i * 512) (drop (i * 512) t)) ≡ 512
+lent-length t i room = rw lent-block (length-block t i room)

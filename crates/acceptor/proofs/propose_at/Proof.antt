@@ -14,10 +14,10 @@ use Rattle.messages.specs.declared.answer.Answer.{Answer}
 use Rattle.messages.specs.Answers.{bytesOf}
 use Rattle.storage_block.specs.Block.{readable, registerOf, registerWith}
 use Rattle.storage_search.specs.Table.{blockAt}
-use Rattle.storage_search.specs.Blocks.{lent-block}
+use Rattle.storage_search.specs.Blocks.{lent-block, lent-length}
 use Rattle.acceptor.specs.Rules.{proposed}
 use Rattle.acceptor.specs.Contract.{Worked, Placed}
-use Rattle.acceptor.specs.Laws.{refused-placed, work-placed, lent-length}
+use Rattle.acceptor.specs.Laws.{refused-placed, work-placed}
 use borrow.Author.Needs.{needs}
 use Rattle.acceptor.proofs.propose_at.Statement.{statement}
 use Rattle.acceptor.proofs.propose_at.Tie as tie

@@ -22,7 +22,7 @@ use Rattle.storage_block.specs.Block.{readable, registerOf, registerWith, regis
 use Rattle.storage_block.specs.Read.{value-fits}
 use Rattle.acceptor.specs.Rules.{proposed}
 use Rattle.acceptor.specs.Contract.{Worked}
-use Rattle.acceptor.specs.Laws.{value-back}
+use Rattle.storage_block.specs.Stores.{value-back}
 use borrow.Author.Needs.{needs}
 use native.Mathlib.Omega.{arith}
 use Rattle.acceptor.proofs.propose_in.Statement.{statement}

@@ -7,7 +7,8 @@ use Prim.Native.Nat.{ℕ, _*_, _≤_, _<_}
 use borrow.Author.Tests.{ne-eqb, le-leb, lt-leb}
 use Rattle.leaf_fields.specs.Fields.{fromLe, part, byte}
 use Rattle.messages.specs.Ballots.{above}
-use Rattle.storage_block.specs.Block.{headGood, valueLength}
+use Rattle.messages.specs.declared.Ballot.{Ballot}
+use Rattle.storage_block.specs.Block.{headGood, registerOf, valueLength}
 use borrow.Author.Needs.{needs}
 use native.Mathlib.Omega.{arith}
 use Rattle.storage_block.proofs.head_good.Statement.{statement}
@@ -30,8 +31,8 @@ module _ (b : List ℕ) where
   unfolding headGood
   long-value n h0 h1 h2 e h3 = rw (h0, le-leb _ _ h1, le-leb _ _ h2, lt-leb (valueLength b) (256 * byte b 2) (rw e at h3))
 
-  by-ballots : (n seen accepted : ℕ) (r : Bool) → byte b 0 ≡ 1 → byte b 1 ≤ 64 → byte b 2 ≤ 1 → n ≡ fromLe (part b 4 2) → n ≤ 256 * byte b 2 → seen ≡ fromLe (part b 8 8) → accepted ≡ fromLe (part b 16 8) → r ≡ above (record { 0 = accepted }) (record { 0 = seen }) → not r ≡ headGood b
-  unfolding headGood
+  by-ballots : (n : ℕ) (seen accepted : Ballot) (r : Bool) → byte b 0 ≡ 1 → byte b 1 ≤ 64 → byte b 2 ≤ 1 → n ≡ fromLe (part b 4 2) → n ≤ 256 * byte b 2 → seen ≡ registerOf b .seen → accepted ≡ registerOf b .accepted → r ≡ above accepted seen → not r ≡ headGood b
+  unfolding headGood registerOf
   by-ballots n seen accepted r h0 h1 h2 e h3 p q er = rw (er, p, q, h0, le-leb _ _ h1, le-leb _ _ h2, le-leb (valueLength b) (256 * byte b 2) (rw e at h3))
 
 shared-slice-read-if1 : tie.Need-shared-slice-read-if1
@@ -73,11 +74,11 @@ cast-len c = search needs
 returns-4 : tie.Need-returns-4
 returns-4 c = search long-value depth 8
 
-get64-requires : tie.Need-get64-requires
-get64-requires c κs = search needs
+highest-seen-requires : tie.Need-highest-seen-requires
+highest-seen-requires c κs = search needs
 
-get64-requires-2 : tie.Need-get64-requires-2
-get64-requires-2 c κs = search needs
+accepted-ballot-requires : tie.Need-accepted-ballot-requires
+accepted-ballot-requires c κs = search needs
 
 above-requires : tie.Need-above-requires
 above-requires c κs = search needs
@@ -102,7 +103,7 @@ head-good-spec =
     get16-requires
     cast-len
     returns-4
-    get64-requires
-    get64-requires-2
+    highest-seen-requires
+    accepted-ballot-requires
     above-requires
     returns-5)
