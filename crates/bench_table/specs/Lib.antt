@@ -1,1 +1,3 @@
+pub mod AcceptorRows
+pub mod ProposerRows
 pub mod Starred
