@@ -159,12 +159,10 @@ fn value_in(b: &[u8], area: &mut [u8]) -> GotValue
     requires { ⌜ (length (now b) ≡ blockBytes) × (readable (now b) ≡ true) × (length (now area) ≡ valueMost) ⌝ }
     ensures { λ r. ⌜ (r ≡ valueAnswer (registerOf (now (b .entry)) .value)) × (now (area .exit) ≡ sets (now (area .entry)) 0 (bytesOf (registerOf (now (b .entry)) .value))) ⌝ }
 {
-    let value = storage_block::value_bytes(b);
-    leaf_fields::copy(area, 0, value);
-    let mark = storage_block::value_mark(b);
-    match mark {
+    let len = storage_block::copy_value(b, area);
+    match storage_block::value_mark(b) {
         OptionValue::None => GotValue::None,
-        OptionValue::Some => GotValue::Some(value.len()),
+        OptionValue::Some => GotValue::Some(len),
     }
 }
 
