@@ -9,8 +9,8 @@ use native.Mathlib.Omega.{arith}
 use borrow.Author.Tests.{eq-eqb, ltb-true, ltb-false, le-ltb}
 use lib.Dec.{eqb, ltb}
 use lib.ListN.{length, getD, take, drop, set}
-use Rattle.leaf_fields.specs.Fields.{Bytes}
-use Rattle.leaf_fields.specs.Laws.{and-true, bytes-take, bytes-drop, bytes-part}
+use Rattle.leaf_fields.specs.Fields.{same, Bytes}
+use Rattle.leaf_fields.specs.Laws.{and-true, same-true, bytes-take, bytes-drop, bytes-part}
 use Rattle.messages.specs.declared.Address.{Address}
 use Rattle.messages.specs.declared.Ballot.{Ballot}
 use Rattle.messages.specs.declared.answer.Refusal.{Refusal}
@@ -23,8 +23,8 @@ use Rattle.storage_block.specs.Rows.{bytes-none, bytes-append}
 use Rattle.storage_block.specs.Read.{lawful-register}
 use Rattle.storage_block.specs.Written.{length-image, bytes-image, slot-image}
 use Rattle.storage_search.specs.declared.Found.{Found}
-use Rattle.storage_search.specs.Table.{isSized, noneBad, isBad, same, holds, isFree, count, firstFrom, foundBy, blockAt, withBlock, slots, whereIs, isTwice, registerBy, Lent}
-use Rattle.storage_search.specs.Blocks.{sized-of, same-true}
+use Rattle.storage_search.specs.Table.{isSized, noneBad, isBad, holds, isFree, count, firstFrom, foundBy, blockAt, withBlock, slots, whereIs, isTwice, registerBy, Lent}
+use Rattle.storage_search.specs.Blocks.{sized-of}
 use Rattle.storage_search.specs.Laws.{slots-with, where-at, where-free, count-none}
 use Rattle.acceptor.specs.Rules.{Job, jobOf, Store, keep, put, Outcome, workOn, keyTwice, foreign, noBlock, perform, unless, receive}
 use Rattle.acceptor.specs.Contract.{answerBytes, outcomeOn, stored}

@@ -10,7 +10,7 @@ use Rattle.messages.specs.declared.answer.Refusal.{Refusal}
 use Rattle.messages.specs.Message.{Key, Value, Request, Failure, Result, Reply, Message}
 use Rattle.messages.specs.Limits.{noneZero, listFits, withinLimits}
 use Rattle.messages.specs.Answers.{Told, nothing, one, each, timeouts, refused}
-use Rattle.storage_search.specs.Table.{same}
+use Rattle.leaf_fields.specs.Fields.{same}
 use Rattle.proposer.specs.Rules.{Proposer, Outcome, listed, pendingAt, replaceAt, noPlace, takePlace, moved, receive, clockBack, inTime, insert, lateOnes, rowsOf, tick, emptyPlaces, start}
 
 -- ---- the bench

@@ -1,6 +1,6 @@
 -- Numbers as bytes, the lowest first, at any width; parts of a row of bytes; rows of zeros.
 -- Assumes nothing.
-use mathlib.Core.Bool.{Bool, true, _&&_}
+use mathlib.Core.Bool.{Bool, true, false, _&&_}
 use mathlib.Core.List.{List, [], _∷_}
 use Prim.Native.Nat.{ℕ, zero, suc, _+_, _-_, _*_, _/_, _%_, _<_}
 use lib.Dec.{eqb}
@@ -32,6 +32,13 @@ byte b i = getD b i 0
 unfoldable pub allZero : List ℕ → Bool
 allZero [] = true
 allZero (x ∷ l) = eqb x 0 && allZero l
+
+-- the same bytes
+unfoldable pub same : List ℕ → List ℕ → Bool
+same [] [] = true
+same [] (y ∷ m) = false
+same (x ∷ l) [] = false
+same (x ∷ l) (y ∷ m) = eqb x y && same l m
 
 -- every element is a byte
 unfoldable pub Bytes : List ℕ → Type 0

@@ -7,11 +7,11 @@ use Prim.Native.Nat.{ℕ, zero, suc, _+_, _-_, _*_, _/_, _%_, _^_, _≤_, _<_}
 use native.Mathlib.Nat.{pow-suc}
 use native.Mathlib.Omega.{arith}
 use native.Mathlib.Decide.{ℕ-discrete}
-use borrow.Author.Tests.{eqb-true}
+use borrow.Author.Tests.{eqb-true, eq-eqb}
 use lib.Dec.{lit<, eqb}
 use lib.ListN.{length, take, drop, set, replicate, length-take, length-drop, length-append}
 use lib.Seq.{sets, sets-eq, drop-cons, getD-drop, getD-set-same, getD-set-other, drop-at, take-at, take-set-le, drop-set-lt, drop-set-add, drop-append-le}
-use Rattle.leaf_fields.specs.Fields.{fromLe, toLe, part, byte, allZero, Bytes}
+use Rattle.leaf_fields.specs.Fields.{fromLe, toLe, part, byte, allZero, same, Bytes}
 
 pub length-toLe : (w x : ℕ) → length (toLe w x) ≡ w
 unfolding toLe
@@ -109,3 +109,28 @@ pub zeros-zero : (n : ℕ) → allZero (replicate n 0) ≡ true
 unfolding allZero
 zeros-zero zero = refl
 zeros-zero (suc n) = zeros-zero n
+
+pub same-true : (l m : List ℕ) → same l m ≡ true → l ≡ m
+unfolding same
+same-true [] [] h = refl
+same-true [] (y ∷ m) h = absurd (false≢true h)
+same-true (x ∷ l) [] h = absurd (false≢true h)
+same-true (x ∷ l) (y ∷ m) h =
+    let p = and-true (eqb x y) (same l m) h in
+    rw (eqb-true x y (p .0), same-true l m (p .1))
+
+pub same-refl : (l : List ℕ) → same l l ≡ true
+unfolding same
+same-refl [] = refl
+same-refl (x ∷ l) = rw (eq-eqb x x refl) (same-refl l)
+
+pub same-length : (l m : List ℕ) → (length l ≡ length m → ⊥) → same l m ≡ false
+unfolding same
+same-length [] [] ne = absurd (ne refl)
+same-length [] (y ∷ m) ne = refl
+same-length (x ∷ l) [] ne = refl
+same-length (x ∷ l) (y ∷ m) ne = go (eqb x y) (same-length l m (λ e. ne (ap suc e)))
+  where
+    go : (t : Bool) → same l m ≡ false → (t && same l m) ≡ false
+    go true h = h
+    go false h = refl

@@ -3,7 +3,7 @@ ghost use mathlib.Core.Path.{_≡_};
 ghost use Prim.Native.Nat.{_+_, _≤_, _<_, _^_};
 ghost use lib.ListN.{length, replicate};
 ghost use lib.Seq.{sets};
-ghost use Rattle.leaf_fields.specs.Fields.{fromLe, toLe, part, allZero};
+ghost use Rattle.leaf_fields.specs.Fields.{fromLe, toLe, part, allZero, same};
 
 // The number in the n bytes at `at`, the lowest first.
 pub fn get(s: &[u8], at: usize, n: usize) -> u64
@@ -85,6 +85,23 @@ pub fn zeros(s: &[u8]) -> bool
     let mut i = 0;
     while i < s.len() {
         if s[i] != 0 {
+            return false;
+        }
+        i += 1;
+    }
+    true
+}
+
+// Whether two rows have the same bytes.
+pub fn same(a: &[u8], b: &[u8]) -> bool
+    ensures { λ r. ⌜ r ≡ same (now (a .entry)) (now (b .entry)) ⌝ }
+{
+    if a.len() != b.len() {
+        return false;
+    }
+    let mut i = 0;
+    while i < a.len() {
+        if a[i] != b[i] {
             return false;
         }
         i += 1;

@@ -14,7 +14,7 @@ use Rattle.messages.specs.Message.{Key, Value, Request, Failure, Result, Reply,
 use Rattle.messages.specs.Limits.{withinLimits}
 use Rattle.messages.specs.Refusals.{Test, test, firstDue}
 use Rattle.messages.specs.Answers.{Row, Told, nothing, one, each, timeouts, refused}
-use Rattle.storage_search.specs.Table.{same}
+use Rattle.leaf_fields.specs.Fields.{same}
 
 -- ---- the state
 

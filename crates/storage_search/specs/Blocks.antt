@@ -1,13 +1,13 @@
 -- The laws of a table's bytes: its size, its blocks as they are lent, and a table with one block replaced. And the laws of equal bytes.
 -- Assumes nothing.
-use mathlib.Core.Path.{_≡_, refl, sym, ap, _∙_}
-use mathlib.Core.Bool.{true, false≢true, _&&_}
+use mathlib.Core.Path.{_≡_, sym, ap, _∙_}
+use mathlib.Core.Bool.{true, _&&_}
 use mathlib.Core.List.{List, [], _∷_, _++_}
 use Prim.Native.Nat.{ℕ, zero, suc, _+_, _-_, _*_, _≤_, _<_}
 use native.Mathlib.Nat.{zero-add, suc-add}
 use native.Mathlib.Omega.{arith}
 use native.Mathlib.Decide.{decLt}
-use borrow.Author.Tests.{eqb-true, leb-true, ltb-true, eq-eqb}
+use borrow.Author.Tests.{eqb-true, leb-true, ltb-true}
 use borrow.Rule.Slice.PartMut.{putMid}
 use lib.Dec.{eqb, leb, ltb}
 use lib.ListN.{length, take, drop, length-take, length-drop, length-append, take-append-drop}
@@ -16,7 +16,7 @@ use Rattle.leaf_fields.specs.Fields.{byte}
 use Rattle.leaf_fields.specs.Laws.{and-true}
 use Rattle.messages.specs.Limits.{registersMost}
 use Rattle.storage_block.specs.Block.{blockBytes}
-use Rattle.storage_search.specs.Table.{isSized, blockAt, withBlock, same}
+use Rattle.storage_search.specs.Table.{isSized, blockAt, withBlock}
 
 -- ---- the size
 
@@ -122,20 +122,6 @@ module _ (t : List ℕ) (i : ℕ) (b : List ℕ) (len : length b ≡ blockBytes)
   block-other j ne = elim (decLt j i) [ yes lt ↦ block-before j lt | no ge ↦ block-after j (omega arith) ]
 
 -- ---- equal bytes
-
-pub same-true : (l m : List ℕ) → same l m ≡ true → l ≡ m
-unfolding same
-same-true [] [] h = refl
-same-true [] (y ∷ m) h = absurd (false≢true h)
-same-true (x ∷ l) [] h = absurd (false≢true h)
-same-true (x ∷ l) (y ∷ m) h =
-    let p = and-true (eqb x y) (same l m) h in
-    rw (eqb-true x y (p .0), same-true l m (p .1))
-
-pub same-refl : (l : List ℕ) → same l l ≡ true
-unfolding same
-same-refl [] = refl
-same-refl (x ∷ l) = rw (eq-eqb x x refl) (same-refl l)
 
 -- a block replaced by itself
 pub same-block : (t : List ℕ) (i : ℕ) → withBlock t i (blockAt t i) ≡ t

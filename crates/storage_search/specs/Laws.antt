@@ -13,15 +13,15 @@ use borrow.Author.Tests.{eqb-true, not-true}
 use lib.Dec.{eqb, ltb, eqb·suc-suc, eqb·zero-suc, eqb·suc-zero}
 use lib.ListN.{length, getD, take, drop, set, length-set, length-drop}
 use lib.Seq.{ext-getD, getD-set-same, getD-set-other}
-use Rattle.leaf_fields.specs.Fields.{byte, allZero}
-use Rattle.leaf_fields.specs.Laws.{and-true}
+use Rattle.leaf_fields.specs.Fields.{byte, allZero, same}
+use Rattle.leaf_fields.specs.Laws.{and-true, same-true}
 use Rattle.messages.specs.Message.{Key}
 use Rattle.messages.specs.Limits.{keyMost}
 use Rattle.storage_block.specs.Block.{Slot, free, used, bad, Register, blockBytes, keyLength, registerOf, good, stateOf, slotOf}
 use Rattle.storage_block.specs.Read.{Good, good-of}
 use Rattle.storage_search.specs.declared.Found.{Found}
-use Rattle.storage_search.specs.Table.{blockAt, withBlock, slotsFrom, slots, isBad, noneBad, same, holds, isFree, count, firstFrom, foundBy, whereIs, Lent}
-use Rattle.storage_search.specs.Blocks.{sized-of, room-for, length-block, byte-block, drop-block, block-same, block-other, same-true}
+use Rattle.storage_search.specs.Table.{blockAt, withBlock, slotsFrom, slots, isBad, noneBad, holds, isFree, count, firstFrom, foundBy, whereIs, Lent}
+use Rattle.storage_search.specs.Blocks.{sized-of, room-for, length-block, byte-block, drop-block, block-same, block-other}
 
 -- ---- each slot is its block's
 

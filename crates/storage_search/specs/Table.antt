@@ -7,6 +7,7 @@ use mathlib.Core.Option.{Option, none, some}
 use Prim.Native.Nat.{ℕ, zero, suc, _*_}
 use lib.Dec.{eqb, leb, ltb}
 use lib.ListN.{length, getD, take, drop}
+use Rattle.leaf_fields.specs.Fields.{same}
 use Rattle.messages.specs.Message.{Key}
 use Rattle.messages.specs.Limits.{registersMost}
 use Rattle.storage_block.specs.Block.{Slot, free, used, bad, Register, fresh, blockBytes, slotOf}
@@ -53,13 +54,6 @@ badState BlockState.Bad = true
 unfoldable pub noneBad : List Slot → Bool
 noneBad [] = true
 noneBad (s ∷ l) = not (isBad s) && noneBad l
-
--- the same bytes
-unfoldable pub same : List ℕ → List ℕ → Bool
-same [] [] = true
-same [] (y ∷ m) = false
-same (x ∷ l) [] = false
-same (x ∷ l) (y ∷ m) = eqb x y && same l m
 
 -- the block holds the key
 abbrev pub holds : Key → Slot → Bool

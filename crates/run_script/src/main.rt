@@ -1,0 +1,127 @@
+// Runs a script from standard input (docs/SCRIPT.md): each message and tick goes to the acceptor, and its answer is a line of output.
+mod input;
+mod output;
+mod run;
+
+use input::Window;
+use input::next_line;
+use output::flush;
+use run::Run;
+use run::obey;
+ghost use Prim.Native.Nat.{_≤_};
+ghost use Rattle.run_script.specs.Held.{Held, Shows};
+
+// A proved loop has to end, and nothing says that the input does: lines are counted up to a number that no script has.
+const LINES_MOST: u64 = 1099511627776;
+
+// The line that a window shows; the run is over where it shows nothing.
+fn line_of(
+    s: Run,
+    w: Window,
+    line: u64,
+    table: &mut [u8],
+    area: &mut [u8],
+    key: &mut [u8],
+    value: &mut [u8],
+    other: &mut [u8],
+    list: &mut [u16],
+    buf: &[u8],
+    out: &mut [u8],
+) -> Run
+    requires { ⌜ (Held s (now table) (now area) (now out)) × (Shows w (now buf)) ⌝ }
+    ensures { λ r. ⌜ Held r (now (table .exit)) (now (area .exit)) (now (out .exit)) ⌝ }
+{
+    let a = w.from;
+    let e = w.end;
+    let to = w.to;
+    if a == to {
+        return s.over();
+    }
+    let t = obey(
+        s,
+        &buf[a..e],
+        line,
+        table,
+        area,
+        out,
+        key,
+        value,
+        other,
+        list,
+    );
+    t.moved(after(e, to), to)
+}
+
+// The next line of the script.
+fn turn(
+    s: Run,
+    line: u64,
+    table: &mut [u8],
+    area: &mut [u8],
+    key: &mut [u8],
+    value: &mut [u8],
+    other: &mut [u8],
+    list: &mut [u16],
+    buf: &mut [u8],
+    out: &mut [u8],
+) -> Run
+    requires { ⌜ Held s (now table) (now area) (now out) ⌝ }
+    ensures { λ r. ⌜ Held r (now (table .exit)) (now (area .exit)) (now (out .exit)) ⌝ }
+{
+    let w = next_line(buf, s.from, s.to);
+    line_of(s, w, line, table, area, key, value, other, list, buf, out)
+}
+
+// The script, line by line, over the buffers of a run.
+fn run_lines(
+    table: &mut [u8],
+    area: &mut [u8],
+    key: &mut [u8],
+    value: &mut [u8],
+    other: &mut [u8],
+    list: &mut [u16],
+    buf: &mut [u8],
+    out: &mut [u8],
+) {
+    let mut s = Run::new();
+    let mut line: u64 = 0;
+    while line < LINES_MOST {
+        line += 1;
+        s = turn(s, line, table, area, key, value, other, list, buf, out);
+        if s.ended {
+            flush(out, s.at);
+            return;
+        }
+    }
+}
+
+// Where the next line begins, behind a line end or at the end.
+fn after(end: usize, to: usize) -> usize
+    ensures { λ r. ⌜ r ≤ to ⌝ }
+{
+    if end < to {
+        return end + 1;
+    }
+    to
+}
+
+fn main() {
+    let mut table = [0u8; 524800];
+    let mut area = [0u8; 512];
+    let mut key = [0u8; 600];
+    let mut value = [0u8; 600];
+    let mut other = [0u8; 600];
+    let mut list = [0u16; 32];
+    let mut buf = [0u8; 65536];
+    let mut out = [0u8; 65536];
+    run_lines(
+        &mut table,
+        &mut area,
+        &mut key,
+        &mut value,
+        &mut other,
+        &mut list,
+        &mut buf,
+        &mut out,
+    );
+}

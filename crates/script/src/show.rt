@@ -1,0 +1,49 @@
+// The table's blocks and the answer area as lines of text: hex digits, the zeros at the end left out.
+use super::put::put_byte;
+use super::put::put_hex;
+use super::put::put_number;
+use super::put::put_text;
+ghost use mathlib.Core.Path.{_≡_};
+ghost use mathlib.Core.Bool.{true};
+ghost use Prim.Native.Nat.{_≤_};
+ghost use lib.ListN.{length, drop};
+ghost use Rattle.leaf_fields.specs.Fields.{allZero};
+
+// How many bytes stand before the zeros at the end.
+pub fn kept(s: &[u8]) -> usize
+    ensures { λ r. ⌜ (r ≤ length (now (s .entry))) × (allZero (drop r (now (s .entry))) ≡ true) ⌝ }
+{
+    let mut n = s.len();
+    while 0 < n {
+        if s[n - 1] != 0 {
+            return n;
+        }
+        n -= 1;
+    }
+    n
+}
+
+// `area ` and the area's bytes.
+pub fn put_area(out: &mut [u8], at: usize, area: &[u8]) -> usize
+    ensures { λ r. ⌜ r ≤ length (now (out .exit)) ⌝ }
+{
+    let n = kept(area);
+    let p = put_text(out, at, b"area ");
+    let q = put_hex(out, p, &area[0..n]);
+    put_byte(out, q, b'\n')
+}
+
+// `block I ` and the block's bytes; nothing for a block of zeros.
+pub fn put_block(out: &mut [u8], at: usize, i: usize, block: &[u8]) -> usize
+    ensures { λ r. ⌜ r ≤ length (now (out .exit)) ⌝ }
+{
+    let n = kept(block);
+    if n == 0 {
+        return put_text(out, at, b"");
+    }
+    let p = put_text(out, at, b"block ");
+    let q = put_number(out, p, i as u64);
+    let r = put_text(out, q, b" ");
+    let t = put_hex(out, r, &block[0..n]);
+    put_byte(out, t, b'\n')
+}

@@ -1,0 +1,204 @@
+// A line of a script: which step it is, and its bytes in lent buffers.
+use super::bytes::is_bytes;
+use super::bytes::unhex;
+use super::list::read_list;
+use super::message::Message;
+use super::message::read_message;
+use super::number::Number;
+use super::number::Sender;
+use super::number::read_address;
+use super::number::read_number;
+use super::places::Places;
+use super::places::no_places;
+use super::places::places_of;
+use super::places::poke_places;
+use super::words::Words;
+use super::words::is;
+use super::words::split;
+use super::words::word;
+use messages::Address;
+use messages::Rpc;
+ghost use Prim.Native.Nat.{_≤_};
+ghost use lib.ListN.{length};
+
+pub enum Step {
+    // an empty line or a remark
+    Pass,
+    Acceptor(usize),
+    Lend {
+        registers: usize,
+        bytes: usize,
+        area: usize,
+    },
+    // at this place of the table; the bytes are the line's value
+    Poke(usize),
+    Table,
+    Area,
+    Tick(u64),
+    Message(Address, Rpc),
+    Unreadable,
+}
+
+// A step, and how many bytes or numbers stand at the front of each lent buffer.
+pub struct Line {
+    pub step: Step,
+    pub key: usize,
+    pub value: usize,
+    pub other: usize,
+    pub list: usize,
+}
+
+fn read_acceptor(line: &[u8], words: Words) -> Step {
+    if words.n != 2 {
+        return Step::Unreadable;
+    }
+    let Number::Good(registers) = read_number(word(line, words, 1)) else {
+        return Step::Unreadable;
+    };
+    Step::Acceptor(registers as usize)
+}
+
+fn read_lend(line: &[u8], words: Words) -> Step {
+    if words.n != 4 {
+        return Step::Unreadable;
+    }
+    let Number::Good(registers) = read_number(word(line, words, 1)) else {
+        return Step::Unreadable;
+    };
+    let Number::Good(bytes) = read_number(word(line, words, 2)) else {
+        return Step::Unreadable;
+    };
+    let Number::Good(area) = read_number(word(line, words, 3)) else {
+        return Step::Unreadable;
+    };
+    Step::Lend {
+        registers: registers as usize,
+        bytes: bytes as usize,
+        area: area as usize,
+    }
+}
+
+fn read_poke(line: &[u8], words: Words) -> Step {
+    if words.n != 3 {
+        return Step::Unreadable;
+    }
+    let Number::Good(at) = read_number(word(line, words, 1)) else {
+        return Step::Unreadable;
+    };
+    if !is_bytes(word(line, words, 2)) {
+        return Step::Unreadable;
+    }
+    Step::Poke(at as usize)
+}
+
+fn read_tick(line: &[u8], words: Words) -> Step {
+    if words.n != 2 {
+        return Step::Unreadable;
+    }
+    let Number::Good(time) = read_number(word(line, words, 1)) else {
+        return Step::Unreadable;
+    };
+    Step::Tick(time)
+}
+
+// `table` and `area` stand alone.
+fn read_alone(words: Words, step: Step) -> Step {
+    if words.n != 1 {
+        return Step::Unreadable;
+    }
+    step
+}
+
+fn read_sent(line: &[u8], words: Words) -> Step {
+    let Sender::Good(from) = read_address(word(line, words, 0)) else {
+        return Step::Unreadable;
+    };
+    let Message::Good(rpc) = read_message(line, words) else {
+        return Step::Unreadable;
+    };
+    Step::Message(from, rpc)
+}
+
+fn read_step(line: &[u8], words: Words) -> Step {
+    let name = word(line, words, 0);
+    if is(name, b"tick") {
+        return read_tick(line, words);
+    }
+    if is(name, b"acceptor") {
+        return read_acceptor(line, words);
+    }
+    if is(name, b"lend") {
+        return read_lend(line, words);
+    }
+    if is(name, b"poke") {
+        return read_poke(line, words);
+    }
+    if is(name, b"table") {
+        return read_alone(words, Step::Table);
+    }
+    if is(name, b"area") {
+        return read_alone(words, Step::Area);
+    }
+    read_sent(line, words)
+}
+
+fn step_places(step: Step) -> Places {
+    match step {
+        Step::Pass => no_places(),
+        Step::Acceptor(_) => no_places(),
+        Step::Lend {
+            registers: _,
+            bytes: _,
+            area: _,
+        } => no_places(),
+        Step::Poke(_) => poke_places(),
+        Step::Table => no_places(),
+        Step::Area => no_places(),
+        Step::Tick(_) => no_places(),
+        Step::Message(_, rpc) => places_of(rpc),
+        Step::Unreadable => no_places(),
+    }
+}
+
+// Whether a line is no step: empty, or a remark.
+fn is_passed(line: &[u8]) -> bool {
+    if line.len() == 0 {
+        return true;
+    }
+    line[0] == b'#'
+}
+
+// A line's step, and its bytes at the fronts of the lent buffers.
+pub fn read(
+    line: &[u8],
+    key: &mut [u8],
+    value: &mut [u8],
+    other: &mut [u8],
+    list: &mut [u16],
+) -> Line
+    ensures { λ r. ⌜ (r .key ≤ length (now (key .exit))) × (r .value ≤ length (now (value .exit))) × (r .other ≤ length (now (other .exit))) × (r .list ≤ length (now (list .exit))) ⌝ }
+{
+    if is_passed(line) {
+        return Line {
+            step: Step::Pass,
+            key: 0,
+            value: 0,
+            other: 0,
+            list: 0,
+        };
+    }
+    let words = split(line);
+    let step = read_step(line, words);
+    let places = step_places(step);
+    let in_key = unhex(word(line, words, places.key), key);
+    let in_value = unhex(word(line, words, places.value), value);
+    let in_other = unhex(word(line, words, places.other), other);
+    let in_list = read_list(word(line, words, places.list), list);
+    Line {
+        step,
+        key: in_key,
+        value: in_value,
+        other: in_other,
+        list: in_list,
+    }
+}
