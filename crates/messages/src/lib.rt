@@ -16,7 +16,8 @@ pub use limits::register_fits;
 ghost use mathlib.Core.Path.{_≡_};
 ghost use lib.ListN.{length};
 ghost use Rattle.messages.specs.Ballots.{above};
-ghost use Rattle.messages.specs.Message.{listedAt};
+ghost use Rattle.messages.specs.Message.{given, listedAt};
+ghost use Rattle.messages.specs.Answers.{bytesOf};
 ghost use Rattle.messages.specs.Errors.{
   rejectedAccept,
   rejectedProposal,
@@ -199,5 +200,15 @@ pub fn address_at(list: &[u16], place: Place) -> Address
         Address(list[i])
     } else {
         Address(0)
+    }
+}
+
+// The bytes of a value that may be missing: none where it is.
+pub fn present(value: OptionValue, bytes: &[u8]) -> &[u8]
+    ensures { λ r. ⌜ now r ≡ bytesOf (given value (now (bytes .entry))) ⌝ }
+{
+    match value {
+        OptionValue::None => &bytes[0..0],
+        OptionValue::Some => bytes,
     }
 }

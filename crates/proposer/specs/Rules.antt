@@ -5,12 +5,13 @@ use mathlib.Core.List.{List, [], _∷_, _++_}
 use mathlib.Core.Option.{Option, none, some}
 use Prim.Native.Nat.{ℕ, zero, suc, _+_, _-_, _/_, _^_, max}
 use lib.Dec.{eqb, leb, ltb}
-use lib.ListN.{length}
+use lib.ListN.{length, take, drop}
 use Rattle.messages.specs.declared.Address.{Address}
 use Rattle.messages.specs.declared.Ballot.{Ballot}
+use Rattle.messages.specs.declared.Req.{Req}
 use Rattle.messages.specs.declared.answer.Refusal.{Refusal}
 use Rattle.messages.specs.Ballots.{ballot0, above}
-use Rattle.messages.specs.Message.{Key, Value, Request, Failure, Result, Reply, Message}
+use Rattle.messages.specs.Message.{Key, Value, Request, Failure, Result, Reply, Message, given}
 use Rattle.messages.specs.Limits.{withinLimits}
 use Rattle.messages.specs.Refusals.{Test, test, firstDue}
 use Rattle.messages.specs.Answers.{Row, Told, nothing, one, each, timeouts, refused}
@@ -49,8 +50,11 @@ pub record Proposer : Type 0 where
 -- ---- numbers
 
 -- "Majority of a list of n, repeats counted: n/2 rounded down, plus 1."
+abbrev pub majorityOf : ℕ → ℕ
+majorityOf n = n / 2 + 1
+
 abbrev pub majority : List ℕ → ℕ
-majority l = length l / 2 + 1
+majority l = majorityOf (length l)
 
 -- "reached at that number or more"
 abbrev pub reached : List ℕ → List ℕ → Bool
@@ -102,6 +106,13 @@ applied (Request.Get k) promised = record { value = promised; failed = false }
 applied (Request.Del k) promised = record { value = none; failed = false }
 applied (Request.Set k v) promised = record { value = some v; failed = false }
 applied (Request.Cas k old new) promised = record { value = cond (sameValue old promised) new promised; failed = not (sameValue old promised) }
+
+-- a request whose bytes are one row: the value of a `Set`; of a `Cas` the old value's n bytes, then the new value
+abbrev pub requestIn : Req → List ℕ → ℕ → Request
+requestIn Req.Get s n = Request.Get []
+requestIn Req.Del s n = Request.Del []
+requestIn Req.Set s n = Request.Set [] s
+requestIn (Req.Cas old new) s n = Request.Cas [] (given old (take n s)) (given new (drop n s))
 
 -- what the client is told after a majority of acceptances: "the new value, or `CasFailed` with the promised value"
 abbrev pub replyOf : Request → Option Value → Reply

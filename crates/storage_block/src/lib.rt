@@ -165,16 +165,6 @@ fn mark_byte(value: OptionValue) -> u8
     }
 }
 
-// The bytes of a value that may be missing: none where it is.
-fn present(value: OptionValue, bytes: &[u8]) -> &[u8]
-    ensures { λ r. ⌜ now r ≡ bytesOf (given value (now (bytes .entry))) ⌝ }
-{
-    match value {
-        OptionValue::None => &bytes[0..0],
-        OptionValue::Some => bytes,
-    }
-}
-
 // Bytes 0 to 23 of a block that is zero so far.
 fn write_front(
     b: &mut [u8],
@@ -217,7 +207,7 @@ pub fn write(
     requires { ⌜ (length (now b) ≡ blockBytes) × (length (now key) ≤ keyMost) × (length (bytesOf (given value (now bytes))) ≤ valueMost) ⌝ }
     ensures { λ _. ⌜ now (b .exit) ≡ image (register (now (key .entry)) seen accepted (given value (now (bytes .entry)))) ⌝ }
 {
-    let stored = present(value, bytes);
+    let stored = messages::present(value, bytes);
     leaf_fields::clear(b);
     write_front(
         &mut b[0..24],

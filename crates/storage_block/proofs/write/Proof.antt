@@ -7,7 +7,8 @@ use borrow.Rule.Slice.PartMut.{putMid}
 use lib.ListN.{length, take, drop, replicate, length-append, length-replicate}
 use lib.Seq.{sets, take-at}
 use Rattle.messages.specs.Message.{given}
-use Rattle.messages.specs.Answers.{marked, bytesOf}
+use Rattle.messages.specs.Fit.{marked-given}
+use Rattle.messages.specs.Answers.{bytesOf}
 use Rattle.messages.specs.declared.Ballot.{Ballot}
 use Rattle.messages.specs.declared.OptionValue.{OptionValue}
 use Rattle.leaf_fields.specs.Fields.{toLe}
@@ -23,10 +24,6 @@ lent-zeros b n l e = rw (e, l)
 
 short : (s t : List ℕ) → s ≡ t → length t ≤ 256 → length s ≤ 256
 short s t e h = rw e h
-
-marked-given : (value : OptionValue) (bytes : List ℕ) → marked (given value bytes) ≡ value
-marked-given OptionValue.None bytes = refl
-marked-given OptionValue.Some bytes = refl
 
 -- the key and the value, stored behind a front of 24 bytes into zeros
 filled : (f key v : List ℕ) → length f ≡ 24 → length key ≤ 64 → length v ≤ 256 → take 504 (sets (sets (f ++ replicate 488 0) 24 key) 88 v) ≡ f ++ (padded 64 key ++ padded 416 v)

@@ -1,0 +1,67 @@
+-- `proposer::change::new_mark` meets its contract, request by request.
+-- Assumes nothing.
+use Rattle.proposer.specs.Change.{get-mark, cas-new-mark, cas-old-mark}
+use borrow.Author.Needs.{needs}
+use Rattle.proposer.proofs.change.new_mark.Statement.{statement}
+use Rattle.proposer.proofs.change.new_mark.Tie as tie
+
+enum-told : tie.Need-enum-told
+enum-told c = search needs
+
+enum-told-2 : tie.Need-enum-told-2
+enum-told-2 c = search needs
+
+enum-told-3 : tie.Need-enum-told-3
+enum-told-3 c = search needs
+
+enum-known-req : tie.Need-enum-known-req
+enum-known-req c = search needs
+
+within-requires : tie.Need-within-requires
+within-requires c κs = search needs
+
+sub-same-value : tie.Need-sub-same-value
+sub-same-value c = search needs
+
+part-same-value-start : tie.Need-part-same-value-start
+part-same-value-start c = search needs
+
+part-same-value-end : tie.Need-part-same-value-end
+part-same-value-end c = search needs
+
+same-value-requires : tie.Need-same-value-requires
+same-value-requires c κs = search needs
+
+returns : tie.Need-returns
+returns c = search get-mark
+
+returns-2 : tie.Need-returns-2
+returns-2 c = search needs
+
+returns-3 : tie.Need-returns-3
+returns-3 c = search needs
+
+returns-4 : tie.Need-returns-4
+returns-4 c = search cas-new-mark depth 9
+
+returns-5 : tie.Need-returns-5
+returns-5 c = search cas-old-mark depth 9
+
+pub new-mark-spec : {M : Type 1} → statement M
+new-mark-spec =
+    tie.close
+    (tie.spec
+    enum-told
+    enum-told-2
+    enum-told-3
+    enum-known-req
+    within-requires
+    sub-same-value
+    part-same-value-start
+    part-same-value-end
+    same-value-requires
+    returns
+    returns-2
+    returns-3
+    returns-4
+    returns-5)
