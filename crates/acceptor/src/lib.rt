@@ -99,7 +99,7 @@ fn propose_at(
     fits: bool,
     area: &mut [u8],
 ) -> Answer
-    requires { ⌜ (i * 512 + 512 ≤ length (now table)) × (readable (blockAt (now table) i) ≡ true) × (fits ≡ true → length (now key) ≤ keyMost) × (length (now area) ≡ answerBytes) ⌝ }
+    requires { ⌜ (i * blockBytes + blockBytes ≤ length (now table)) × (readable (blockAt (now table) i) ≡ true) × (fits ≡ true → length (now key) ≤ keyMost) × (length (now area) ≡ answerBytes) ⌝ }
     ensures { λ r. ⌜ (Placed (proposed ballot (registerWith (now (key .entry)) (blockAt (now (table .entry)) i))) fits from (now (table .entry)) i r (now (table .exit))) × (now (area .exit) ≡ cond fits (sets (now (area .entry)) 0 (bytesOf (registerOf (blockAt (now (table .entry)) i) .value))) (now (area .entry))) ⌝ }
 {
     if !fits {
@@ -120,7 +120,7 @@ fn accept_at(
     bytes: &[u8],
     fits: bool,
 ) -> Answer
-    requires { ⌜ (i * 512 + 512 ≤ length (now table)) × (fits ≡ true → length (now key) ≤ keyMost) × (fits ≡ true → length (bytesOf (given value (now bytes))) ≤ valueMost) ⌝ }
+    requires { ⌜ (i * blockBytes + blockBytes ≤ length (now table)) × (fits ≡ true → length (now key) ≤ keyMost) × (fits ≡ true → length (bytesOf (given value (now bytes))) ≤ valueMost) ⌝ }
     ensures { λ r. ⌜ Placed (accepted ballot (given value (now (bytes .entry))) (registerWith (now (key .entry)) (blockAt (now (table .entry)) i))) fits from (now (table .entry)) i r (now (table .exit)) ⌝ }
 {
     if !fits {

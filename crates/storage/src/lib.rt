@@ -218,7 +218,7 @@ fn set_in(b: &mut [u8], key: &[u8], change: Change, bytes: &[u8]) -> Done
     let seen = storage_block::highest_seen(b);
     let accepted = storage_block::accepted_ballot(b);
     let mark = storage_block::value_mark(b);
-    let mut old = [0u8; 256];
+    let mut old = [0u8; VALUE_MOST];
     let len = storage_block::copy_value(b, &mut old);
     match change {
         Change::HighestSeen(x) => write_register(b, key, x, accepted, mark, &old[0..len]),
@@ -229,7 +229,7 @@ fn set_in(b: &mut [u8], key: &[u8], change: Change, bytes: &[u8]) -> Done
 
 // The same on block i of the table: that block alone is lent on.
 fn set_at(table: &mut [u8], i: usize, key: &[u8], change: Change, bytes: &[u8]) -> Done
-    requires { ⌜ (i * 512 + 512 ≤ length (now table)) × (readable (blockAt (now table) i) ≡ true) ⌝ }
+    requires { ⌜ (i * blockBytes + blockBytes ≤ length (now table)) × (readable (blockAt (now table) i) ≡ true) ⌝ }
     ensures { λ r. ⌜ BlockSet (changed change (now (bytes .entry)) (registerWith (now (key .entry)) (blockAt (now (table .entry)) i))) (now (table .entry)) i r (now (table .exit)) ⌝ }
 {
     let a = i * BLOCK;
@@ -240,7 +240,7 @@ fn set_at(table: &mut [u8], i: usize, key: &[u8], change: Change, bytes: &[u8]) 
 fn set_full(key: &[u8], change: Change, bytes: &[u8]) -> Done
     ensures { λ r. ⌜ r ≡ fullBy (changed change (now (bytes .entry)) (fresh (now (key .entry)))) ⌝ }
 {
-    let mut spare = [0u8; 512];
+    let mut spare = [0u8; BLOCK];
     match set_in(&mut spare, key, change, bytes) {
         Done::Stored => Done::Refused(Refusal::NoRoom),
         Done::Refused(r) => Done::Refused(r),

@@ -126,11 +126,15 @@ front keyLen seen accepted value valueLen =
 unfoldable pub padded : ℕ → List ℕ → List ℕ
 padded n l = l ++ replicate (n - length l) 0
 
+-- the bytes from 88 to 503, where a value stands
+abbrev pub valueRoom : ℕ
+valueRoom = 416
+
 -- bytes 0 to 503: the front, the key in 24 to 87, the value from 88 on
 unfoldable pub body : Register → List ℕ
 body r =
     front (length (r .key)) (r .seen) (r .accepted) (marked (r .value)) (length (bytesOf (r .value)))
-    ++ (padded 64 (r .key) ++ padded 416 (bytesOf (r .value)))
+    ++ (padded keyMost (r .key) ++ padded valueRoom (bytesOf (r .value)))
 
 -- bytes 0 to 503, and the two sums behind them
 unfoldable pub sealed : List ℕ → List ℕ
