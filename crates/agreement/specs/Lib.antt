@@ -1,0 +1,16 @@
+pub mod Members
+pub mod Order
+pub mod Majority
+pub mod Core
+pub mod Safety
+pub mod Plant
+pub mod Tables
+pub mod Outcomes
+pub mod Places
+pub mod Link
+pub mod Acceptors
+pub mod Proposers
+pub mod Phases
+pub mod Steps
+pub mod Agreement
+pub mod Example

@@ -1,0 +1,1 @@
+// Runs of a whole plant, made of the parties' rules. Its promises stand in specs/.
