@@ -19,7 +19,7 @@ use Rattle.messages.specs.Limits.{keyMost, valueMost, withinLimits}
 use Rattle.messages.specs.Refusals.{test, firstDue}
 use Rattle.messages.specs.Answers.{refused, bytesOf}
 use Rattle.storage_block.specs.Block.{Slot, free, used, Register, fresh, Lawful, blockBytes, image}
-use Rattle.storage_block.specs.Rows.{bytes-none, bytes-append}
+use Rattle.leaf_fields.specs.Rows.{bytes-none, bytes-append}
 use Rattle.storage_block.specs.Read.{lawful-register}
 use Rattle.storage_block.specs.Written.{length-image, bytes-image, slot-image}
 use Rattle.storage_search.specs.declared.Found.{Found}

@@ -3,7 +3,7 @@
 use mathlib.Core.Bool.{Bool, true, false}
 use mathlib.Core.List.{List, [], _∷_, _++_}
 use mathlib.Core.Option.{Option, none, some}
-use Prim.Native.Nat.{ℕ, zero, suc, _-_, _/_, _%_, _<_}
+use Prim.Native.Nat.{ℕ, suc, _-_, _<_}
 use native.Mathlib.Omega.{arith}
 use lib.Dec.{lit<}
 use lib.ListN.{length, replicate}
@@ -12,32 +12,11 @@ use Rattle.messages.specs.Message.{Value, Request}
 use Rattle.messages.specs.Limits.{keyMost, valueMost}
 use Rattle.messages.specs.Answers.{bytesOf, entryBytes}
 use Rattle.proposer.specs.Rules.{Phase, Propose, Accept, Pending, Proposer, keyOf}
+use Rattle.leaf_fields.specs.Rows.{bytes-none, bytes-front, bytes-append, bytes-zeros, bytes-toLe}
 use Rattle.proposer.specs.Area.{listBytes, placeBytes, valuesBytes, firstValue, secondValue, kindByte, phaseByte, flagByte, markByte, padded, listRow, placeFront, valuesOf, placeValues, placeRest, placeImage, placesImage, headerFront, areaImage}
 use Rattle.proposer.specs.AreaLaws.{Lawful, LawfulPlace, LawfulPlaces, LawfulState}
 
 -- ---- rows of bytes
-
-pub bytes-none : Bytes []
-unfolding Bytes
-bytes-none = λ i. lit< tt
-
-pub bytes-front : (b : ℕ) (l : List ℕ) → b < 256 → Bytes l → Bytes (b ∷ l)
-unfolding Bytes
-bytes-front b l hb h = λ i. elim i [ zero ↦ hb | suc j ↦ h j ]
-
-pub bytes-append : (l m : List ℕ) → Bytes l → Bytes m → Bytes (l ++ m)
-unfolding Bytes
-bytes-append [] m hl hm = hm
-bytes-append (b ∷ l) m hl hm = λ i. elim i [ zero ↦ hl 0 | suc j ↦ bytes-append l m (λ k. hl (suc k)) hm j ]
-
-pub bytes-zeros : (n : ℕ) → Bytes (replicate n 0)
-bytes-zeros zero = bytes-none
-bytes-zeros (suc n) = bytes-front 0 (replicate n 0) (lit< tt) (bytes-zeros n)
-
-pub bytes-toLe : (w x : ℕ) → Bytes (toLe w x)
-unfolding toLe
-bytes-toLe zero x = bytes-none
-bytes-toLe (suc w) x = bytes-front (x % 256) (toLe w (x / 256)) (omega arith) (bytes-toLe w (x / 256))
 
 pub bytes-padded : (n : ℕ) (l : List ℕ) → Bytes l → Bytes (padded n l)
 unfolding padded

@@ -12,7 +12,7 @@ use lib.Seq.{set-getD, set-set, getD-set-other, take-set-lt, take-set-le, drop-s
 use Rattle.leaf_fields.specs.Fields.{fromLe, part, byte, allZero, Bytes}
 use Rattle.leaf_fields.specs.Laws.{length-part, bytes-set, and-true, zeros-are}
 use Rattle.leaf_sums.specs.Sums.{plainSum, placedSum}
-use Rattle.storage_block.specs.Rows.{fields-same}
+use Rattle.leaf_fields.specs.Rows.{fields-same}
 use Rattle.storage_block.specs.Read.{Sums, sums-of, three-parts}
 use Rattle.storage_block.specs.declared.BlockState.{BlockState}
 use Rattle.storage_block.specs.Block.{blockBytes, headGood, restZero, sumsGood, good, stateOf}

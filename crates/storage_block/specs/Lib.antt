@@ -1,5 +1,4 @@
 pub mod Block
-pub mod Rows
 pub mod Stores
 pub mod Read
 pub mod Written

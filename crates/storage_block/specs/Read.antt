@@ -17,7 +17,7 @@ use Rattle.messages.specs.Ballots.{above}
 use Rattle.messages.specs.Message.{Key}
 use Rattle.messages.specs.Limits.{keyMost, valueMost}
 use Rattle.messages.specs.Answers.{marked, bytesOf}
-use Rattle.storage_block.specs.Rows.{fromLe-fits, field-back, part-join, part-cons}
+use Rattle.leaf_fields.specs.Rows.{fromLe-fits, field-back, part-join, part-cons}
 use Rattle.storage_block.specs.Block.{Lawful, fresh, readable, registerWith, blockBytes, keyLength, valueLength, valueOf, registerOf, headGood, restZero, sumsGood, good, markByte, front, padded, body, sealed, image}
 
 -- what a good head says of the fields

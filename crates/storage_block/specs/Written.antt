@@ -18,7 +18,7 @@ use Rattle.messages.specs.Limits.{keyMost, valueMost}
 use Rattle.messages.specs.Answers.{marked, bytesOf}
 use Rattle.messages.specs.declared.OptionValue.{OptionValue}
 use Rattle.storage_block.specs.declared.BlockState.{BlockState}
-use Rattle.storage_block.specs.Rows.{bytes-front, bytes-append, bytes-zeros, bytes-toLe, part-between}
+use Rattle.leaf_fields.specs.Rows.{bytes-front, bytes-append, bytes-zeros, bytes-toLe, part-between}
 use Rattle.storage_block.specs.Block.{Register, Lawful, blockBytes, keyLength, valueLength, registerOf, headGood, restZero, sumsGood, good, stateOf, used, slotOf, markByte, front, padded, body, sealed, image}
 
 -- ---- bytes 0 to 503 and the sums behind them
