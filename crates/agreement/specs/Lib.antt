@@ -13,4 +13,5 @@ pub mod Proposers
 pub mod Phases
 pub mod Steps
 pub mod Agreement
+pub mod Play
 pub mod Example
