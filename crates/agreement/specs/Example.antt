@@ -293,9 +293,9 @@ happened = record {
     voters = 12 ∷ 13 ∷ [];
     majority = two-of-three;
     all = all-cons
-      (record { it = accepts 12 ballot1 position; at = nth-in 0 (plant .acceptances) (accepts 12 ballot1 position) refl; is = (refl, refl, refl, refl) })
-      (all-cons (record { it = accepts 13 ballot1 position; at = nth-in 1 (plant .acceptances) (accepts 13 ballot1 position) refl; is = (refl, refl, refl, refl) })
-      (λ a m. absurd (List·Memᴰ·not-nil m)));
+        (record { it = accepts 12 ballot1 position; at = nth-in 0 (plant .acceptances) (accepts 12 ballot1 position) refl; is = (refl, refl, refl, refl) })
+        (all-cons (record { it = accepts 13 ballot1 position; at = nth-in 1 (plant .acceptances) (accepts 13 ballot1 position) refl; is = (refl, refl, refl, refl) })
+        (λ a m. absurd (List·Memᴰ·not-nil m)));
   };
 }
 
