@@ -18,7 +18,7 @@ use Rattle.acceptor.specs.Rules.{Outcome, receive}
 use Rattle.acceptor.specs.Stores.{Takes}
 use Rattle.acceptor.specs.Dependence.{registerFor, key-for}
 use Rattle.acceptor.specs.Images.{storedIn}
-use Rattle.proposer.specs.Rules.{Proposer}
+use Rattle.proposer_rules.specs.State.{Proposer}
 use Rattle.agreement.specs.Members.{In, Some, some-head, all-cons, all-append}
 use Rattle.agreement.specs.Order.{plantOrder, NotAbove}
 use Rattle.agreement.specs.Majority.{Majority}

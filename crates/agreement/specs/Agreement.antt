@@ -12,7 +12,7 @@ use Rattle.messages.specs.Ballots.{ballot0, above}
 use Rattle.messages.specs.Message.{Key, Value, Request, Result, Reply, Message}
 use Rattle.storage_block.specs.Block.{Slot}
 use Rattle.acceptor.specs.Dependence.{registerFor}
-use Rattle.proposer.specs.Rules.{Pending, Proposer, keyOf}
+use Rattle.proposer_rules.specs.State.{Pending, Proposer, keyOf}
 use Rattle.agreement.specs.Members.{either, In, Some, all-cons, pair-cons, one-more}
 use Rattle.agreement.specs.Order.{plantOrder, counterOf}
 use Rattle.agreement.specs.Majority.{Majority, Common, Member, majorities-meet, someone}

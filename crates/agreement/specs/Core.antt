@@ -6,7 +6,8 @@ use mathlib.Core.List.{List, [], _∷_, List·Memᴰ·not-nil}
 use mathlib.Core.Option.{Option, none}
 use Prim.Native.Nat.{ℕ}
 use Rattle.messages.specs.Message.{Key, Value, Request}
-use Rattle.proposer.specs.Rules.{keyOf, applied}
+use Rattle.proposer_rules.specs.State.{keyOf}
+use Rattle.proposer_rules.specs.Rules.{applied}
 use Rattle.agreement.specs.Members.{either, In, Some, all-cons, some-cons, some-head, pair-cons}
 use Rattle.agreement.specs.Order.{Order, NotAbove, itself, below-not-above, then-below, not-above-trans}
 

@@ -17,8 +17,9 @@ use Rattle.storage_search.specs.Table.{noneBad, count, firstFrom, whereIs}
 use Rattle.acceptor.specs.Rules as Acceptor
 use Rattle.acceptor.specs.Rules.{workOn}
 use Rattle.acceptor.specs.Images.{storedIn}
-use Rattle.proposer.specs.Rules as Proposing
-use Rattle.proposer.specs.Rules.{Proposer, Pending, Propose, start, emptyPlaces, listed, pendingAt, replaceAt, noPlace, takePlace, clockBack, inTime, lateOnes, rowsOf}
+use Rattle.proposer_rules.specs.Rules as Proposing
+use Rattle.proposer_rules.specs.State.{Proposer, Pending, Propose, listed}
+use Rattle.proposer_rules.specs.Rules.{start, emptyPlaces, pendingAt, replaceAt, noPlace, takePlace, clockBack, inTime, lateOnes, rowsOf}
 use Rattle.agreement.specs.Members.{either, In, all-cons, none-yet, one-more}
 use Rattle.agreement.specs.Majority.{SameSet, Majority, reached-majority}
 use Rattle.agreement.specs.Order.{plantOrder}

@@ -13,7 +13,7 @@ use Rattle.messages.specs.declared.Ballot.{Ballot}
 use Rattle.messages.specs.Message.{Key, Value, Failure, Result, Reply, Message}
 use Rattle.storage_block.specs.Block.{Register}
 use Rattle.acceptor.specs.Dependence.{registerFor}
-use Rattle.proposer.specs.Rules.{Phase, Propose, Accept, Pending, Proposer, keyOf}
+use Rattle.proposer_rules.specs.State.{Phase, Propose, Accept, Pending, Proposer, keyOf}
 use Rattle.agreement.specs.Members.{either, In, Some, some-in, Distinct}
 use Rattle.agreement.specs.Order.{plantOrder, NotAbove, counterOf}
 use Rattle.agreement.specs.Majority.{SameSet, Majority}

@@ -9,7 +9,7 @@ use native.Mathlib.Omega.{arith}
 use native.Mathlib.Decide.{ℕ-discrete}
 use borrow.Author.Tests.{leb-true}
 use lib.ListN.{length, length-append}
-use Rattle.proposer.specs.Rules.{majority, reached}
+use Rattle.proposer_rules.specs.Rules.{majority, reached}
 use Rattle.agreement.specs.Members.{either, decide, In, Distinct, none-yet, one-more, distinct-length, distinct-append}
 
 pub record SameSet (l m : List ℕ) : Type 0 where

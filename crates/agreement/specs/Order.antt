@@ -9,7 +9,7 @@ use native.Mathlib.Decide.{decLt}
 use borrow.Author.Tests.{ltb-true, lt-ltb}
 use Rattle.messages.specs.declared.Ballot.{Ballot}
 use Rattle.messages.specs.Ballots.{ballot0, above}
-use Rattle.proposer.specs.Rules.{nextBallot}
+use Rattle.proposer_rules.specs.Rules.{nextBallot}
 use Rattle.agreement.specs.Members.{decide}
 
 pub data Compared (A B C : Type 0) : Type 0 where

@@ -12,7 +12,8 @@ use Rattle.messages.specs.Message.{Value, Request, Failure, Result, Reply, Mess
 use Rattle.messages.specs.Limits.{withinLimits}
 use Rattle.messages.specs.Refusals.{test, firstDue}
 use Rattle.messages.specs.Answers.{nothing, refused}
-use Rattle.proposer.specs.Rules.{Phase, Propose, Accept, Pending, Proposer, reached, raised, usedUp, listed, keyOf, applied, replyOf, pendingAt, replaceAt, noPlace, takePlace, Outcome, outcome, unless, toEach, moved, asked, proposals, toClient, withNo, withYes, promisedBy, toAccept, foreignPromise, promiseAbove, noBallot, promiseWork, inFirst, onPromise, firstPhase, foreignAcceptance, acceptanceWork, onAcceptance, foreign, withLists, work, receive}
+use Rattle.proposer_rules.specs.State.{Phase, Propose, Accept, Pending, Proposer, listed, keyOf, withNo, withYes}
+use Rattle.proposer_rules.specs.Rules.{reached, raised, usedUp, applied, replyOf, pendingAt, replaceAt, noPlace, takePlace, Outcome, outcome, unless, toEach, moved, asked, proposals, toClient, promisedBy, toAccept, foreignPromise, promiseAbove, noBallot, promiseWork, inFirst, onPromise, firstPhase, foreignAcceptance, acceptanceWork, onAcceptance, foreign, withLists, work, receive}
 
 module _ (s : Proposer) (from : Address) (at : ℕ) where
   -- a pending request of a ballot and phase that waits for the sender and has no answer of it

@@ -10,7 +10,8 @@ use native.Mathlib.Omega.{arith}
 use Rattle.messages.specs.declared.Address.{Address}
 use Rattle.messages.specs.Ballots.{above}
 use Rattle.messages.specs.Message.{Request, Message}
-use Rattle.proposer.specs.Rules.{Propose, Pending, Proposer, reached, nextBallot, keyOf, replaceAt, toEach, moved, asked, proposals, toAccept}
+use Rattle.proposer_rules.specs.State.{Propose, Pending, Proposer, keyOf}
+use Rattle.proposer_rules.specs.Rules.{reached, nextBallot, replaceAt, toEach, moved, asked, proposals, toAccept}
 use Rattle.agreement.specs.Members.{either, In, some-head, some-cons, all-cons, all-append, pair-cons, none-yet}
 use Rattle.agreement.specs.Order.{plantOrder, NotAbove, itself, below-not-above, not-above-both, counterOf, next-above, next-counted}
 use Rattle.agreement.specs.Majority.{Majority, someone, same-majority, reached-majority}

@@ -10,7 +10,8 @@ use native.Mathlib.Omega.{arith}
 use borrow.Author.Tests.{eqb-true, eqb-false}
 use lib.Dec.{eqb}
 use Rattle.messages.specs.declared.Ballot.{Ballot}
-use Rattle.proposer.specs.Rules.{Pending, Proposer, isBallot, pickPending, pendingAt, replaceAt, takePlace, dropLate, late, inTime, listed}
+use Rattle.proposer_rules.specs.State.{Pending, Proposer, listed}
+use Rattle.proposer_rules.specs.Rules.{isBallot, pickPending, pendingAt, replaceAt, takePlace, dropLate, late, inTime}
 use Rattle.agreement.specs.Members.{either, In}
 use Rattle.agreement.specs.Order.{same-ballot}
 

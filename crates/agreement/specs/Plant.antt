@@ -16,8 +16,9 @@ use Rattle.storage_block.specs.Block.{Slot, free}
 use Rattle.acceptor.specs.Rules as Acceptor
 use Rattle.acceptor.specs.Rules.{Store, keep, put}
 use Rattle.acceptor.specs.Images.{storedIn}
-use Rattle.proposer.specs.Rules as Proposing
-use Rattle.proposer.specs.Rules.{Proposer, Pending, keyOf, replyOf}
+use Rattle.proposer_rules.specs.Rules as Proposing
+use Rattle.proposer_rules.specs.State.{Proposer, Pending, keyOf}
+use Rattle.proposer_rules.specs.Rules.{replyOf}
 use Rattle.agreement.specs.Members.{In, Distinct}
 use Rattle.agreement.specs.Order.{plantOrder}
 use Rattle.agreement.specs.Majority.{SameSet, Majority}

@@ -11,7 +11,8 @@ use Rattle.messages.specs.declared.Ballot.{Ballot}
 use Rattle.messages.specs.Ballots.{above}
 use Rattle.messages.specs.Message.{Key, Value, Request, Failure, Reply, Message}
 use Rattle.messages.specs.Answers.{Row}
-use Rattle.proposer.specs.Rules.{Phase, Propose, Accept, Pending, Proposer, reached, keyOf, sameValue, applied, replyOf, replaceAt, toEach, allTimeouts, moved, withNo, withYes, promisedBy}
+use Rattle.proposer_rules.specs.State.{Phase, Propose, Accept, Pending, Proposer, keyOf, withNo, withYes}
+use Rattle.proposer_rules.specs.Rules.{reached, sameValue, applied, replyOf, replaceAt, toEach, allTimeouts, moved, promisedBy}
 use Rattle.agreement.specs.Members.{either, In, Some, all-cons, all-append, Distinct, none-yet, one-more, distinct-append}
 use Rattle.agreement.specs.Order.{plantOrder, NotAbove, itself, below-not-above, not-above-trans}
 use Rattle.agreement.specs.Majority.{SameSet, Majority, same-majority, reached-majority}

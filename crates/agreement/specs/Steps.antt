@@ -14,7 +14,8 @@ use Rattle.messages.specs.Ballots.{above}
 use Rattle.messages.specs.Message.{Value, Request, Failure, Result, Reply, Message}
 use Rattle.messages.specs.Refusals.{test, firstDue}
 use Rattle.messages.specs.Answers.{nothing, refused}
-use Rattle.proposer.specs.Rules.{Propose, Accept, Pending, Proposer, reached, nextBallot, raised, replyOf, keyOf, applied, replaceAt, takePlace, Outcome, outcome, unless, toEach, allTimeouts, moved, asked, proposals, toClient, withNo, withYes, promisedBy, toAccept, receive, clockBack, inTime, lateOnes, rowsOf, tick}
+use Rattle.proposer_rules.specs.State.{Propose, Accept, Pending, Proposer, keyOf, withNo, withYes}
+use Rattle.proposer_rules.specs.Rules.{reached, nextBallot, raised, replyOf, applied, replaceAt, takePlace, Outcome, outcome, unless, toEach, allTimeouts, moved, asked, proposals, toClient, promisedBy, toAccept, receive, clockBack, inTime, lateOnes, rowsOf, tick}
 use Rattle.agreement.specs.Members.{either, In, Some, all-cons}
 use Rattle.agreement.specs.Order.{plantOrder}
 use Rattle.agreement.specs.Majority.{SameSet}

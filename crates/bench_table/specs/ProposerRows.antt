@@ -11,7 +11,8 @@ use Rattle.messages.specs.Message.{Key, Value, Request, Failure, Result, Reply,
 use Rattle.messages.specs.Limits.{noneZero, listFits, withinLimits}
 use Rattle.messages.specs.Answers.{Told, nothing, one, each, timeouts, refused}
 use Rattle.leaf_fields.specs.Fields.{same}
-use Rattle.proposer.specs.Rules.{Proposer, Outcome, listed, pendingAt, replaceAt, noPlace, takePlace, moved, receive, clockBack, inTime, insert, lateOnes, rowsOf, tick, emptyPlaces, start}
+use Rattle.proposer_rules.specs.State.{Proposer, listed}
+use Rattle.proposer_rules.specs.Rules.{Outcome, pendingAt, replaceAt, noPlace, takePlace, moved, receive, clockBack, inTime, insert, lateOnes, rowsOf, tick, emptyPlaces, start}
 
 -- ---- the bench
 

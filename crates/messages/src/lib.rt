@@ -12,6 +12,7 @@ pub use limits::PENDING_MOST;
 pub use limits::REGISTERS_MOST;
 pub use limits::VALUE_MOST;
 pub use limits::fits;
+pub use limits::list_fits;
 pub use limits::register_fits;
 ghost use mathlib.Core.Path.{_≡_};
 ghost use lib.ListN.{length};

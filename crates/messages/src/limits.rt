@@ -117,7 +117,8 @@ fn none_zero(list: &[u16]) -> bool
     true
 }
 
-fn list_fits(list: &[u16]) -> bool
+// Whether a list is short enough and has no address 0.
+pub fn list_fits(list: &[u16]) -> bool
     ensures { λ r. ⌜ r ≡ listFits (now (list .entry)) ⌝ }
 {
     if LIST_MOST < list.len() {

@@ -7,9 +7,9 @@ use Prim.Native.Nat.{ℕ, zero, suc, _^_, _≤_, _<_}
 use lib.Dec.{lit<}
 use lib.ListN.{length}
 use Rattle.messages.specs.Limits.{pendingMost, listFits}
-use Rattle.proposer.specs.Rules.{emptyPlaces, start}
-use Rattle.proposer.specs.Area.{areaImage, readArea, distinct, placesFit, ballotsOf, mayBeLent, isImage}
-use Rattle.proposer.specs.AreaLaws.{ShortList, LawfulPlaces, LawfulState, read-written, image-is}
+use Rattle.proposer_rules.specs.Rules.{emptyPlaces, start}
+use Rattle.proposer_place.specs.Area.{areaImage, readArea, distinct, placesFit, ballotsOf, mayBeLent, isImage}
+use Rattle.proposer_place.specs.AreaLaws.{ShortList, LawfulPlaces, LawfulState, read-written, image-is}
 
 -- "It starts with counter 0, nothing pending and one given list as both lists"
 

@@ -13,7 +13,7 @@ use Rattle.messages.specs.declared.Req.{Req}
 use Rattle.messages.specs.Message.{given}
 use Rattle.messages.specs.Answers.{marked, bytesOf}
 use Rattle.messages.specs.Fit.{marked-given}
-use Rattle.proposer.specs.Rules.{sameValue, applied, requestIn}
+use Rattle.proposer_rules.specs.Rules.{sameValue, applied, requestIn}
 
 -- a part that ends with its row
 take-within : (s : List ℕ) (n end : ℕ) → end ≡ min n (length s) → take (end - 0) (drop 0 s) ≡ take n s

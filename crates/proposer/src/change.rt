@@ -7,7 +7,7 @@ ghost use Prim.Native.Nat.{_≤_, min};
 ghost use lib.ListN.{length};
 ghost use Rattle.messages.specs.Message.{given};
 ghost use Rattle.messages.specs.Answers.{marked, bytesOf};
-ghost use Rattle.proposer.specs.Rules.{sameValue, applied, requestIn};
+ghost use Rattle.proposer_rules.specs.Rules.{sameValue, applied, requestIn};
 
 // The end of a part that may not reach past n.
 fn within(split: usize, n: usize) -> usize

@@ -7,7 +7,7 @@ use Prim.Native.Nat.{ℕ}
 use Rattle.leaf_fields.specs.Fields.{same}
 use Rattle.messages.specs.declared.OptionValue.{OptionValue}
 use Rattle.messages.specs.Message.{given}
-use Rattle.proposer.specs.Rules.{sameValue}
+use Rattle.proposer_rules.specs.Rules.{sameValue}
 use borrow.Author.Needs.{needs}
 use Rattle.proposer.proofs.change.same_value.Statement.{statement}
 use Rattle.proposer.proofs.change.same_value.Tie as tie

@@ -1,0 +1,62 @@
+-- The test of refusal 2 in parts, as the code takes them: the header, each place, the ballots. specs/GoodLaws.antt shows that it is the test `isImage`.
+-- Assumes nothing.
+use mathlib.Core.Path.{_≡_}
+use mathlib.Core.Bool.{Bool, true, not, cond, _&&_}
+use mathlib.Core.List.{List, [], _∷_}
+use mathlib.Core.Option.{some}
+use Prim.Native.Nat.{ℕ, zero, suc, _+_, _*_, _≤_}
+use lib.Dec.{eqb, leb}
+use lib.ListN.{length}
+use Rattle.leaf_fields.specs.Fields.{span, part, byte, allZero, same}
+use Rattle.messages.specs.Limits.{listMost, noneZero}
+use Rattle.messages.specs.Answers.{entries}
+use Rattle.proposer_rules.specs.State.{listed}
+use Rattle.proposer_place.specs.declared.front.Front.{Front}
+use Rattle.proposer_place.specs.Front.{frontOf, Small}
+use Rattle.proposer_place.specs.Area.{acceptCountAt, proposeCountAt, acceptListAt, proposeListAt, headerBytes, usedAt, placeBytes, placeImage, readPending, promiseFits, sizesFit, answersFit}
+
+-- the header: two lists within the limits, and zeros behind them
+unfoldable pub headerGood : List ℕ → Bool
+headerGood a =
+    leb (byte a acceptCountAt) listMost
+    && leb (byte a proposeCountAt) listMost
+    && eqb (byte a 18) 0
+    && eqb (byte a 19) 0
+    && allZero (span a (acceptListAt + 2 * byte a acceptCountAt) proposeListAt)
+    && allZero (span a (proposeListAt + 2 * byte a proposeCountAt) headerBytes)
+    && noneZero (entries a acceptListAt (byte a acceptCountAt))
+    && noneZero (entries a proposeListAt (byte a proposeCountAt))
+
+-- a used place: what is read and written again is the same bytes, and the request may be lent under counter c
+unfoldable pub usedGood : ℕ → List ℕ → Bool
+usedGood c b =
+    sizesFit (readPending b)
+    && same b (placeImage (some (readPending b)))
+    && answersFit (readPending b)
+    && promiseFits (readPending b .promised) (readPending b .value)
+    && leb 1 (readPending b .ballot .0)
+    && leb (readPending b .ballot .0) c
+
+-- a free place is all zeros
+unfoldable pub placeGood : ℕ → List ℕ → Bool
+placeGood c b = cond (eqb (byte b usedAt) 0) (allZero b) (usedGood c b)
+
+-- n places, from `at` on
+unfoldable pub placesGood : ℕ → List ℕ → ℕ → ℕ → Bool
+placesGood c a at zero = true
+placesGood c a at (suc n) = placeGood c (part a at placeBytes) && placesGood c a (at + placeBytes) n
+
+-- none of the first stands in the second
+unfoldable pub noneListed : List ℕ → List ℕ → Bool
+noneListed [] l = true
+noneListed (x ∷ xs) l = not (listed x l) && noneListed xs l
+
+-- ---- for the functions below
+
+-- a struct that was taken out of a place
+pub record TakenFrom (b : List ℕ) (f : Front) : Type 0 where
+  pub sized : length b ≡ placeBytes
+  pub front : f ≡ frontOf (readPending b)
+  pub small : Small f
+  pub values : f .«first_len» + f .«second_len» ≤ 768
+  pub promised : f .«value_len» ≤ 256

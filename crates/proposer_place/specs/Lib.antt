@@ -1,0 +1,10 @@
+pub mod Area
+pub mod AreaRows
+pub mod AreaLaws
+pub mod AreaBytes
+pub mod AreaRead
+pub mod Front
+pub mod Rows
+pub mod FrontLaws
+pub mod PlaceRows
+pub mod PlaceLaws
