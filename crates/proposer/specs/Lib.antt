@@ -9,9 +9,15 @@ pub mod NewValue
 pub mod PromiseLaws
 pub mod GrantLaws
 pub mod Answerers
+pub mod Room
 pub mod AskLaws
 pub mod AcceptanceLaws
+pub mod Found
 pub mod TickLaws
 pub mod ListLaws
 pub mod Refused
 pub mod ReceiveLaws
+pub mod PlacesFit
+pub mod Stays
+pub mod Said
+pub mod SaidBack

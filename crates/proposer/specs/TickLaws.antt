@@ -65,7 +65,7 @@ late-within s t (some p ∷ l) = go (late s t p && noneBelow s t (p .ballot) l) 
 
 -- ---- rows
 
-length-rows : (l : List Row) → length (rowsBytes l) ≡ rowBytes * length l
+pub length-rows : (l : List Row) → length (rowsBytes l) ≡ rowBytes * length l
 unfolding rowsBytes
 length-rows [] = refl
 length-rows (r ∷ l) = simp (length-append, length-toLe, length-rows l) (omega arith)
@@ -76,7 +76,7 @@ rows-more r l =
     ap (λ (u : List ℕ). toLe 2 (r .client .0) ++ (u ++ rowsBytes l)) (sym (append-nil (toLe 8 (r .id))))
     ∙ sym (append-assoc (toLe 2 (r .client .0)) (toLe 8 (r .id) ++ []) (rowsBytes l))
 
-length-rows-of : (l : List Pending) → length (rowsOf l) ≡ length l
+pub length-rows-of : (l : List Pending) → length (rowsOf l) ≡ length l
 unfolding rowsOf
 length-rows-of [] = refl
 length-rows-of (p ∷ l) = ap suc (length-rows-of l)

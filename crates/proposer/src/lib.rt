@@ -1,16 +1,201 @@
-// The crate's proposer.rs. Its rules stand in proposer_rules/specs/Rules.antt; here are the majority and the change operation. The operations over a
-// lent area are to come.
+// The crate's proposer.rs over a lent area. Its rules stand in proposer_rules/specs/Rules.antt, what of them is promised in
+// specs/Contract.antt, the area's and the answer area's layout in docs/LAYOUT.md.
+mod acceptance;
 mod change;
+mod lists;
+mod promise;
+mod request;
+mod send;
+mod timeouts;
 
 pub use change::cas_failed;
 pub use change::new_mark;
 pub use change::new_value;
+use messages::Address;
+use messages::Answer;
+use messages::Refusal;
+use messages::Rpc;
 ghost use mathlib.Core.Path.{_≡_};
+ghost use mathlib.Core.Bool.{true, not};
+ghost use lib.Dec.{leb};
+ghost use lib.ListN.{length};
+ghost use Rattle.messages.specs.Message.{messageOf};
+ghost use Rattle.messages.specs.Limits.{withinLimits};
 ghost use Rattle.proposer_rules.specs.Rules.{majorityOf};
+ghost use Rattle.proposer_rules.specs.Rules as Rules;
+ghost use Rattle.proposer_place.specs.Area.{readArea, mayBeLent};
+ghost use Rattle.proposer.specs.Contract.{
+  answerBytes,
+  outcomeOn,
+  tickOn,
+  startOn,
+  Done,
+  Started,
+};
+ghost use Rattle.proposer_area.specs.Held.{Held};
+ghost use Rattle.proposer.specs.Works.{Worked};
+
+// The answer area: the value, the key, the entries of a list, and a row for each place.
+pub const KEY_AT: usize = 256;
+
+pub const ENTRIES_AT: usize = 320;
+
+pub const ROWS_AT: usize = 350;
+
+pub const ROW: usize = 10;
 
 // How many answers of a list of n entries, repeats counted, are a majority.
 pub fn majority(n: usize) -> usize
     ensures { λ r. ⌜ r ≡ majorityOf n ⌝ }
 {
     n / 2 + 1
+}
+
+// Whether a majority of n entries is not reached by that many answers.
+fn short_of(answers: usize, n: usize) -> bool
+    ensures { λ r. ⌜ r ≡ not (leb (majorityOf n) answers) ⌝ }
+{
+    answers < majority(n)
+}
+
+// The start: counter 0, nothing pending, and one given list as both lists. Refusals are 1 and 4.
+pub fn start(area: &mut [u8], places: usize, timeout: u64, list: &[u16]) -> Answer
+    ensures { λ r. ⌜ Started (now (area .entry)) (startOn (now (area .entry)) places timeout (now (list .entry))) r (now (area .exit)) ⌝ }
+{
+    if !proposer_area::is_sized(area, places) {
+        return Answer::Refused(Refusal::AreaSize);
+    }
+    if !messages::list_fits(list) {
+        return Answer::Refused(Refusal::OverLimit);
+    }
+    lists::begin(area, places, timeout, list);
+    Answer::Nothing
+}
+
+// A message from an address at a time, on a lent area of that many places. The message's bytes are lent beside it, and those of an answer
+// are put into the lent answer area. Any input is taken; refusals are 1 to 11.
+pub fn receive(
+    area: &mut [u8],
+    places: usize,
+    from: Address,
+    at: u64,
+    rpc: Rpc,
+    key: &[u8],
+    value: &[u8],
+    other: &[u8],
+    list: &[u16],
+    answer: &mut [u8],
+) -> Answer
+    ensures { λ r. ⌜ Done (now (area .entry)) (now (answer .entry)) (outcomeOn (now (area .entry)) places (now (answer .entry)) from at (messageOf rpc (now (key .entry)) (now (value .entry)) (now (other .entry)) (now (list .entry)))) r (now (area .exit)) (now (answer .exit)) ⌝ }
+{
+    if !proposer_area::is_sized(area, places) {
+        return Answer::Refused(Refusal::AreaSize);
+    }
+    if answer.len() != ROWS_AT + ROW * places {
+        return Answer::Refused(Refusal::AreaSize);
+    }
+    if !proposer_area::is_image(area, places) {
+        return Answer::Refused(Refusal::Damaged);
+    }
+    let fits = messages::fits(from, rpc, key, value, other, list);
+    work(
+        area,
+        places,
+        from,
+        at,
+        rpc,
+        fits,
+        key,
+        value,
+        other,
+        list,
+        answer,
+    )
+}
+
+// The same on an area that is an image. `fits`: whether the message is within the limits.
+fn work(
+    area: &mut [u8],
+    places: usize,
+    from: Address,
+    at: u64,
+    rpc: Rpc,
+    fits: bool,
+    key: &[u8],
+    value: &[u8],
+    other: &[u8],
+    list: &[u16],
+    answer: &mut [u8],
+) -> Answer
+    requires { ⌜ (Held (now area) places) × (length (now answer) ≡ answerBytes places) × (mayBeLent (readArea (now area) places) ≡ true) × (fits ≡ withinLimits from (messageOf rpc (now key) (now value) (now other) (now list))) ⌝ }
+    ensures { λ r. ⌜ Worked (now (answer .entry)) (Rules.receive (readArea (now (area .entry)) places) from at (messageOf rpc (now (key .entry)) (now (value .entry)) (now (other .entry)) (now (list .entry)))) r (now (area .exit)) (now (answer .exit)) ⌝ }
+{
+    match rpc {
+        Rpc::ClientRequest(id, req) => {
+            if !fits {
+                return Answer::Refused(Refusal::OverLimit);
+            }
+            request::request(area, places, from, at, id, req, key, value, other, answer)
+        }
+        Rpc::ClientResponse(_, _) => Answer::Refused(Refusal::WrongKind),
+        Rpc::SetAcceptAcceptors => {
+            if !fits {
+                return Answer::Refused(Refusal::OverLimit);
+            }
+            lists::set_accept(area, places, list);
+            Answer::Nothing
+        }
+        Rpc::SetProposeAcceptors => {
+            if !fits {
+                return Answer::Refused(Refusal::OverLimit);
+            }
+            lists::set_propose(area, places, list);
+            Answer::Nothing
+        }
+        Rpc::ProposeReq(_) => Answer::Refused(Refusal::WrongKind),
+        Rpc::ProposeRes {
+            req_ballot,
+            last_accepted_ballot,
+            last_accepted_value,
+            res,
+        } => {
+            if !fits {
+                return Answer::Refused(Refusal::OverLimit);
+            }
+            promise::promise(
+                area,
+                places,
+                from,
+                req_ballot,
+                last_accepted_ballot,
+                last_accepted_value,
+                value,
+                res,
+                answer,
+            )
+        }
+        Rpc::AcceptReq(_, _) => Answer::Refused(Refusal::WrongKind),
+        Rpc::AcceptRes(ballot, res) => {
+            if !fits {
+                return Answer::Refused(Refusal::OverLimit);
+            }
+            acceptance::acceptance(area, places, from, ballot, res, answer)
+        }
+    }
+}
+
+// A tick at a time: requests over time are dropped and their clients told. Refusals are 1, 2 and 12.
+pub fn tick(area: &mut [u8], places: usize, t: u64, answer: &mut [u8]) -> Answer
+    ensures { λ r. ⌜ Done (now (area .entry)) (now (answer .entry)) (tickOn (now (area .entry)) places (now (answer .entry)) t) r (now (area .exit)) (now (answer .exit)) ⌝ }
+{
+    if !proposer_area::is_sized(area, places) {
+        return Answer::Refused(Refusal::AreaSize);
+    }
+    if answer.len() != ROWS_AT + ROW * places {
+        return Answer::Refused(Refusal::AreaSize);
+    }
+    if !proposer_area::is_image(area, places) {
+        return Answer::Refused(Refusal::Damaged);
+    }
+    timeouts::tick(area, places, t, answer)
 }

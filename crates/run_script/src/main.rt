@@ -1,4 +1,4 @@
-// Runs a script from standard input (docs/SCRIPT.md): each message and tick goes to the acceptor, and its answer is a line of output.
+// Runs a script from standard input (docs/SCRIPT.md): each message and tick goes to an acceptor or a proposer, and its answer is a line of output.
 mod input;
 mod output;
 mod run;
@@ -107,7 +107,7 @@ fn after(end: usize, to: usize) -> usize
 
 fn main() {
     let mut table = [0u8; 524800];
-    let mut area = [0u8; 512];
+    let mut area = [0u8; 1024];
     let mut key = [0u8; 600];
     let mut value = [0u8; 600];
     let mut other = [0u8; 600];

@@ -5,6 +5,10 @@ use messages::Address;
 use messages::Answer;
 use messages::REGISTERS_MOST;
 use messages::Rpc;
+use proposer::ROW;
+use proposer::ROWS_AT;
+use proposer_area::HEADER;
+use proposer_place::PLACE;
 use script::Step;
 use storage_block::BLOCK;
 ghost use Prim.Native.Nat.{_≤_, max};
@@ -12,11 +16,14 @@ ghost use mathlib.Core.Path.{_≡_};
 ghost use lib.ListN.{length};
 ghost use Rattle.run_script.specs.Held.{Held};
 
-// What is lent to the party, how far the table may hold anything but zeros, how far the output is written, which part of the input is
-// read and not used up, and whether the run is over.
+// Which party there is, the time that messages carry, what is lent to the party (its capacity is the registers of an acceptor's table or
+// the places of a proposer's area), how far the table may hold anything but zeros, how far the output is written, which part of the input
+// is read and not used up, and whether the run is over.
 pub struct Run {
     pub started: bool,
-    pub registers: usize,
+    pub proposer: bool,
+    pub clock: u64,
+    pub capacity: usize,
     pub bytes: usize,
     pub area: usize,
     pub reach: usize,
@@ -32,7 +39,9 @@ impl Run {
     {
         Run {
             started: false,
-            registers: 0,
+            proposer: false,
+            clock: 0,
+            capacity: 0,
             bytes: 0,
             area: 0,
             reach: 0,
@@ -60,12 +69,21 @@ impl Run {
         self
     }
 
-    // A party is there, and is lent this from now on.
-    fn lending(mut self, registers: usize, bytes: usize, area: usize) -> Self
+    // Messages carry this time from now on.
+    fn timed(mut self, time: u64) -> Self
+        ensures { λ r. ⌜ (r .bytes ≡ self .bytes) × (r .area ≡ self .area) × (r .reach ≡ self .reach) × (r .at ≡ self .at) ⌝ }
+    {
+        self.clock = time;
+        self
+    }
+
+    // A proposer or an acceptor is there, and is lent this from now on.
+    fn lending(mut self, proposer: bool, capacity: usize, bytes: usize, area: usize) -> Self
         ensures { λ r. ⌜ (r .bytes ≡ bytes) × (r .area ≡ area) × (r .reach ≡ max (self .reach) bytes) × (r .at ≡ self .at) ⌝ }
     {
         self.started = true;
-        self.registers = registers;
+        self.proposer = proposer;
+        self.capacity = capacity;
         self.bytes = bytes;
         self.area = area;
         self.reached(bytes)
@@ -105,6 +123,9 @@ fn larger(a: usize, b: usize) -> usize
 // The answer area that a fresh acceptor is lent.
 const ANSWER: usize = acceptor::ANSWER;
 
+// The most places that the buffers have room for.
+const PLACES_ROOM: usize = 60;
+
 // The longest line that is read.
 const LINE_MOST: usize = 4096;
 
@@ -124,7 +145,34 @@ fn unreadable(s: Run, out: &mut [u8], line: u64) -> Run
     stop(s, out, line, b": can't be read\n")
 }
 
-// A fresh acceptor: its table and its answer area are zeros.
+// A fresh party: what it is lent is zeros.
+fn fresh(
+    s: Run,
+    table: &mut [u8],
+    area: &mut [u8],
+    out: &mut [u8],
+    line: u64,
+    proposer: bool,
+    capacity: usize,
+    bytes: usize,
+    n: usize,
+) -> Run
+    requires { ⌜ Held s (now table) (now area) (now out) ⌝ }
+    ensures { λ r. ⌜ Held r (now (table .exit)) (now (area .exit)) (now (out .exit)) ⌝ }
+{
+    if table.len() < bytes {
+        return unreadable(s, out, line);
+    }
+    if area.len() < n {
+        return unreadable(s, out, line);
+    }
+    let reach = s.reach;
+    leaf_fields::clear(&mut table[0..reach]);
+    leaf_fields::clear(area);
+    s.cleared().lending(proposer, capacity, bytes, n)
+}
+
+// A fresh acceptor.
 fn start(
     s: Run,
     table: &mut [u8],
@@ -140,16 +188,50 @@ fn start(
         return unreadable(s, out, line);
     }
     let bytes = registers * BLOCK;
-    if table.len() < bytes {
+    fresh(s, table, area, out, line, false, registers, bytes, ANSWER)
+}
+
+// A fresh proposer, and its start.
+fn start_proposer(
+    s: Run,
+    table: &mut [u8],
+    area: &mut [u8],
+    out: &mut [u8],
+    line: u64,
+    places: usize,
+    timeout: u64,
+    list: &[u16],
+) -> Run
+    requires { ⌜ Held s (now table) (now area) (now out) ⌝ }
+    ensures { λ r. ⌜ Held r (now (table .exit)) (now (area .exit)) (now (out .exit)) ⌝ }
+{
+    if PLACES_ROOM < places {
         return unreadable(s, out, line);
     }
-    if area.len() < ANSWER {
-        return unreadable(s, out, line);
+    let bytes = HEADER + PLACE * places;
+    let n = ROWS_AT + ROW * places;
+    let t = fresh(s, table, area, out, line, true, places, bytes, n);
+    if t.ended {
+        return t;
     }
-    let reach = s.reach;
-    leaf_fields::clear(&mut table[0..reach]);
-    leaf_fields::clear(area);
-    s.cleared().lending(registers, bytes, ANSWER)
+    open_proposer(t, table, area, out, timeout, list)
+}
+
+// Its start, on the area that it is lent.
+fn open_proposer(
+    s: Run,
+    table: &mut [u8],
+    area: &[u8],
+    out: &mut [u8],
+    timeout: u64,
+    list: &[u16],
+) -> Run
+    requires { ⌜ Held s (now table) (now area) (now out) ⌝ }
+    ensures { λ r. ⌜ Held r (now (table .exit)) (now (area .entry)) (now (out .exit)) ⌝ }
+{
+    let bytes = s.bytes;
+    let answer = proposer::start(&mut table[0..bytes], s.capacity, timeout, list);
+    answered(s, area, out, answer)
 }
 
 fn lend(
@@ -171,7 +253,7 @@ fn lend(
     if area.len() < n {
         return unreadable(s, out, line);
     }
-    s.lending(registers, bytes, n)
+    s.lending(s.proposer, registers, bytes, n)
 }
 
 fn poke(s: Run, table: &mut [u8], out: &mut [u8], line: u64, at: usize, bytes: &[u8]) -> Run
@@ -215,7 +297,7 @@ fn show_table(s: Run, table: &[u8], out: &mut [u8]) -> Run
     s.written(at)
 }
 
-// A message: what is lent goes to the acceptor with it.
+// A message to the acceptor, with what is lent.
 fn deliver(
     s: Run,
     table: &mut [u8],
@@ -235,7 +317,7 @@ fn deliver(
     let n = s.area;
     let answer = acceptor::receive(
         &mut table[0..bytes],
-        s.registers,
+        s.capacity,
         from,
         rpc,
         key,
@@ -247,11 +329,82 @@ fn deliver(
     answered(s, area, out, answer)
 }
 
+// A message to the proposer, with what is lent.
+fn deliver_proposer(
+    s: Run,
+    table: &mut [u8],
+    area: &mut [u8],
+    out: &mut [u8],
+    from: Address,
+    rpc: Rpc,
+    key: &[u8],
+    value: &[u8],
+    other: &[u8],
+    list: &[u16],
+) -> Run
+    requires { ⌜ Held s (now table) (now area) (now out) ⌝ }
+    ensures { λ r. ⌜ Held r (now (table .exit)) (now (area .exit)) (now (out .exit)) ⌝ }
+{
+    let bytes = s.bytes;
+    let n = s.area;
+    let answer = proposer::receive(
+        &mut table[0..bytes],
+        s.capacity,
+        from,
+        s.clock,
+        rpc,
+        key,
+        value,
+        other,
+        list,
+        &mut area[0..n],
+    );
+    answered(s, area, out, answer)
+}
+
+// A tick, to the party that there is.
+fn tick(s: Run, table: &mut [u8], area: &mut [u8], out: &mut [u8], time: u64) -> Run
+    requires { ⌜ Held s (now table) (now area) (now out) ⌝ }
+    ensures { λ r. ⌜ Held r (now (table .exit)) (now (area .exit)) (now (out .exit)) ⌝ }
+{
+    if !s.proposer {
+        return answered(s, area, out, acceptor::tick());
+    }
+    let bytes = s.bytes;
+    let n = s.area;
+    let answer = proposer::tick(&mut table[0..bytes], s.capacity, time, &mut area[0..n]);
+    answered(s, area, out, answer)
+}
+
+// A message, to the party that there is.
+fn send(
+    s: Run,
+    table: &mut [u8],
+    area: &mut [u8],
+    out: &mut [u8],
+    from: Address,
+    rpc: Rpc,
+    key: &[u8],
+    value: &[u8],
+    other: &[u8],
+    list: &[u16],
+) -> Run
+    requires { ⌜ Held s (now table) (now area) (now out) ⌝ }
+    ensures { λ r. ⌜ Held r (now (table .exit)) (now (area .exit)) (now (out .exit)) ⌝ }
+{
+    if s.proposer {
+        return deliver_proposer(s, table, area, out, from, rpc, key, value, other, list);
+    }
+    deliver(s, table, area, out, from, rpc, key, value, other, list)
+}
+
 // Whether a step is one on a party.
 fn is_on_party(step: Step) -> bool {
     match step {
         Step::Pass => false,
         Step::Acceptor(_) => false,
+        Step::Proposer(_, _) => false,
+        Step::Clock(_) => false,
         Step::Lend {
             registers: _,
             bytes: _,
@@ -288,6 +441,17 @@ fn take(
     match step {
         Step::Pass => s,
         Step::Acceptor(registers) => start(s, table, area, out, line, registers),
+        Step::Proposer(places, timeout) => start_proposer(
+            s,
+            table,
+            area,
+            out,
+            line,
+            places,
+            timeout,
+            list,
+        ),
+        Step::Clock(time) => s.timed(time),
         Step::Lend {
             registers,
             bytes,
@@ -296,19 +460,8 @@ fn take(
         Step::Poke(at) => poke(s, table, out, line, at, value),
         Step::Table => show_table(s, table, out),
         Step::Area => show_area(s, area, out),
-        Step::Tick(_) => answered(s, area, out, acceptor::tick()),
-        Step::Message(from, rpc) => deliver(
-            s,
-            table,
-            area,
-            out,
-            from,
-            rpc,
-            key,
-            value,
-            other,
-            list,
-        ),
+        Step::Tick(time) => tick(s, table, area, out, time),
+        Step::Message(from, rpc) => send(s, table, area, out, from, rpc, key, value, other, list),
         Step::Unreadable => unreadable(s, out, line),
     }
 }

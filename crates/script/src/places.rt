@@ -35,13 +35,18 @@ pub fn poke_places() -> Places {
     words_at(NO_WORD, 2, NO_WORD)
 }
 
-fn list_places() -> Places {
+fn list_at(list: usize) -> Places {
     Places {
         key: NO_WORD,
         value: NO_WORD,
         other: NO_WORD,
-        list: 2,
+        list,
     }
+}
+
+// `proposer PLACES TIMEOUT LIST`.
+pub fn start_places() -> Places {
+    list_at(3)
 }
 
 fn if_some(o: OptionValue, place: usize) -> usize {
@@ -89,8 +94,8 @@ pub fn places_of(rpc: Rpc) -> Places {
     match rpc {
         Rpc::ClientRequest(_, req) => req_places(req),
         Rpc::ClientResponse(_, response) => response_places(response),
-        Rpc::SetAcceptAcceptors => list_places(),
-        Rpc::SetProposeAcceptors => list_places(),
+        Rpc::SetAcceptAcceptors => list_at(2),
+        Rpc::SetProposeAcceptors => list_at(2),
         Rpc::ProposeReq(_) => words_at(3, NO_WORD, NO_WORD),
         Rpc::ProposeRes {
             req_ballot: _,

@@ -1,6 +1,7 @@
 // A line of a script: which step it is, and its bytes in lent buffers.
 use super::bytes::is_bytes;
 use super::bytes::unhex;
+use super::list::is_list;
 use super::list::read_list;
 use super::message::Message;
 use super::message::read_message;
@@ -12,6 +13,7 @@ use super::places::Places;
 use super::places::no_places;
 use super::places::places_of;
 use super::places::poke_places;
+use super::places::start_places;
 use super::words::Words;
 use super::words::is;
 use super::words::split;
@@ -25,6 +27,10 @@ pub enum Step {
     // an empty line or a remark
     Pass,
     Acceptor(usize),
+    // places and timeout; its list is the line's list
+    Proposer(usize, u64),
+    // the time that messages carry from now on
+    Clock(u64),
     Lend {
         registers: usize,
         bytes: usize,
@@ -56,6 +62,32 @@ fn read_acceptor(line: &[u8], words: Words) -> Step {
         return Step::Unreadable;
     };
     Step::Acceptor(registers as usize)
+}
+
+fn read_proposer(line: &[u8], words: Words) -> Step {
+    if words.n != 4 {
+        return Step::Unreadable;
+    }
+    let Number::Good(places) = read_number(word(line, words, 1)) else {
+        return Step::Unreadable;
+    };
+    let Number::Good(timeout) = read_number(word(line, words, 2)) else {
+        return Step::Unreadable;
+    };
+    if !is_list(word(line, words, 3)) {
+        return Step::Unreadable;
+    }
+    Step::Proposer(places as usize, timeout)
+}
+
+fn read_clock(line: &[u8], words: Words) -> Step {
+    if words.n != 2 {
+        return Step::Unreadable;
+    }
+    let Number::Good(time) = read_number(word(line, words, 1)) else {
+        return Step::Unreadable;
+    };
+    Step::Clock(time)
 }
 
 fn read_lend(line: &[u8], words: Words) -> Step {
@@ -127,6 +159,12 @@ fn read_step(line: &[u8], words: Words) -> Step {
     if is(name, b"acceptor") {
         return read_acceptor(line, words);
     }
+    if is(name, b"proposer") {
+        return read_proposer(line, words);
+    }
+    if is(name, b"clock") {
+        return read_clock(line, words);
+    }
     if is(name, b"lend") {
         return read_lend(line, words);
     }
@@ -146,6 +184,8 @@ fn step_places(step: Step) -> Places {
     match step {
         Step::Pass => no_places(),
         Step::Acceptor(_) => no_places(),
+        Step::Proposer(_, _) => start_places(),
+        Step::Clock(_) => no_places(),
         Step::Lend {
             registers: _,
             bytes: _,
