@@ -1,4 +1,3 @@
-pub mod Change
 pub mod AreaStart
 pub mod Contract
 pub mod Works

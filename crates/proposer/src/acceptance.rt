@@ -1,7 +1,4 @@
 // `AcceptRes`: acceptances and refused ones of the second phase.
-use super::change::cas_failed;
-use super::change::new_mark;
-use super::change::new_value;
 use super::promise::drop_with;
 use super::promise::higher;
 use super::promise::raise_with;
@@ -17,6 +14,9 @@ use messages::Res;
 use messages::Response;
 use messages::Rpc;
 use proposer_area::HEADER;
+use proposer_change::cas_failed;
+use proposer_change::new_mark;
+use proposer_change::new_value;
 use proposer_place::PLACE;
 use proposer_place::PROMISED;
 use proposer_place::Phase;

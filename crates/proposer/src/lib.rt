@@ -1,16 +1,12 @@
 // The crate's proposer.rs over a lent area. Its rules stand in proposer_rules/specs/Rules.antt, what of them is promised in
 // specs/Contract.antt, the area's and the answer area's layout in docs/LAYOUT.md.
 mod acceptance;
-mod change;
 mod lists;
 mod promise;
 mod request;
 mod send;
 mod timeouts;
 
-pub use change::cas_failed;
-pub use change::new_mark;
-pub use change::new_value;
 use messages::Address;
 use messages::Answer;
 use messages::Refusal;
@@ -44,18 +40,11 @@ pub const ROWS_AT: usize = 350;
 
 pub const ROW: usize = 10;
 
-// How many answers of a list of n entries, repeats counted, are a majority.
-pub fn majority(n: usize) -> usize
-    ensures { λ r. ⌜ r ≡ majorityOf n ⌝ }
-{
-    n / 2 + 1
-}
-
 // Whether a majority of n entries is not reached by that many answers.
 fn short_of(answers: usize, n: usize) -> bool
     ensures { λ r. ⌜ r ≡ not (leb (majorityOf n) answers) ⌝ }
 {
-    answers < majority(n)
+    answers < proposer_change::majority(n)
 }
 
 // The start: counter 0, nothing pending, and one given list as both lists. Refusals are 1 and 4.

@@ -1,7 +1,5 @@
 // `ProposeRes`: promises and refused proposals of the first phase.
 use super::ENTRIES_AT;
-use super::change::new_mark;
-use super::change::new_value;
 use super::request::COUNTER_MOST;
 use super::send::broadcast;
 use super::send::send;
@@ -19,6 +17,8 @@ use messages::Rpc;
 use proposer_area::ACCEPT_LIST;
 use proposer_area::HEADER;
 use proposer_area::PROPOSE_LIST;
+use proposer_change::new_mark;
+use proposer_change::new_value;
 use proposer_place::KEY;
 use proposer_place::PLACE;
 use proposer_place::PROMISED;

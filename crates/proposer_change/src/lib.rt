@@ -1,4 +1,4 @@
-// What a request makes of the promised value. The request's bytes are one lent slice: the value of a `Set`; of a `Cas` the old value's
+// The majority, and the change operation: what a request makes of the promised value. The request's bytes are one lent slice: the value of a `Set`; of a `Cas` the old value's
 // `split` bytes, then the new value. The promised value is the other. The new value is handed back as a part of one of the two.
 use messages::OptionValue;
 use messages::Req;
@@ -7,7 +7,14 @@ ghost use Prim.Native.Nat.{_≤_, min};
 ghost use lib.ListN.{length};
 ghost use Rattle.messages.specs.Message.{given};
 ghost use Rattle.messages.specs.Answers.{marked, bytesOf};
-ghost use Rattle.proposer_rules.specs.Rules.{sameValue, applied, requestIn};
+ghost use Rattle.proposer_rules.specs.Rules.{majorityOf, sameValue, applied, requestIn};
+
+// How many answers of a list of n entries, repeats counted, are a majority.
+pub fn majority(n: usize) -> usize
+    ensures { λ r. ⌜ r ≡ majorityOf n ⌝ }
+{
+    n / 2 + 1
+}
 
 // The end of a part that may not reach past n.
 fn within(split: usize, n: usize) -> usize

@@ -1,9 +1,9 @@
 -- `proposer::change::new_value` meets its contract, request by request.
 -- Assumes nothing.
-use Rattle.proposer.specs.Change.{get-value, cas-new-value, cas-old-value}
+use Rattle.proposer_change.specs.Change.{get-value, cas-new-value, cas-old-value}
 use borrow.Author.Needs.{needs}
-use Rattle.proposer.proofs.change.new_value.Statement.{statement}
-use Rattle.proposer.proofs.change.new_value.Tie as tie
+use Rattle.proposer_change.proofs.new_value.Statement.{statement}
+use Rattle.proposer_change.proofs.new_value.Tie as tie
 
 enum-told : tie.Need-enum-told
 enum-told c = search needs

@@ -1,9 +1,9 @@
 -- `proposer::change::cas_failed` meets its contract: only a `Cas` compares.
 -- Assumes nothing.
-use Rattle.proposer.specs.Change.{cas-fails}
+use Rattle.proposer_change.specs.Change.{cas-fails}
 use borrow.Author.Needs.{needs}
-use Rattle.proposer.proofs.change.cas_failed.Statement.{statement}
-use Rattle.proposer.proofs.change.cas_failed.Tie as tie
+use Rattle.proposer_change.proofs.cas_failed.Statement.{statement}
+use Rattle.proposer_change.proofs.cas_failed.Tie as tie
 
 enum-told : tie.Need-enum-told
 enum-told c = search needs

@@ -1,9 +1,9 @@
 -- `proposer::change::new_mark` meets its contract, request by request.
 -- Assumes nothing.
-use Rattle.proposer.specs.Change.{get-mark, cas-new-mark, cas-old-mark}
+use Rattle.proposer_change.specs.Change.{get-mark, cas-new-mark, cas-old-mark}
 use borrow.Author.Needs.{needs}
-use Rattle.proposer.proofs.change.new_mark.Statement.{statement}
-use Rattle.proposer.proofs.change.new_mark.Tie as tie
+use Rattle.proposer_change.proofs.new_mark.Statement.{statement}
+use Rattle.proposer_change.proofs.new_mark.Tie as tie
 
 enum-told : tie.Need-enum-told
 enum-told c = search needs

@@ -9,8 +9,8 @@ use Rattle.messages.specs.declared.OptionValue.{OptionValue}
 use Rattle.messages.specs.Message.{given}
 use Rattle.proposer_rules.specs.Rules.{sameValue}
 use borrow.Author.Needs.{needs}
-use Rattle.proposer.proofs.change.same_value.Statement.{statement}
-use Rattle.proposer.proofs.change.same_value.Tie as tie
+use Rattle.proposer_change.proofs.same_value.Statement.{statement}
+use Rattle.proposer_change.proofs.same_value.Tie as tie
 
 by-bytes : (o mark : OptionValue) (old promised : List ℕ) (r : Bool) → o ≡ OptionValue.Some → mark ≡ OptionValue.Some → r ≡ same old promised → r ≡ sameValue (given o old) (given mark promised)
 by-bytes o mark old promised r e f h = rw (e, f, h)
