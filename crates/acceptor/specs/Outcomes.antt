@@ -28,7 +28,7 @@ use Rattle.storage_search.specs.declared.Found.{Found}
 use Rattle.storage_search.specs.Table.{isSized, noneBad, blockAt, withBlock, slots, whereIs, isTwice, registerIn, registerBy, Lent}
 use Rattle.storage_search.specs.Blocks.{length-block}
 use Rattle.storage_search.specs.Keys.{place-known, place-free, room-in, readable-in, register-known, register-new}
-use Rattle.acceptor.specs.Rules.{Work, proposed, accepted, Job, jobOf, keep, put, Outcome, outcome, workOn, unless, receive}
+use Rattle.acceptor.specs.Rules.{Work, proposed, accepted, Job, proposal, acceptance, jobOf, keep, put, Outcome, outcome, workOn, unless, receive}
 use Rattle.acceptor.specs.Contract.{outcomeOn, stored, Received, Ready, Placed, fullAnswer}
 
 -- ---- the outcome, by where the key is
@@ -121,12 +121,6 @@ module _ (t : List ℕ) (n : ℕ) (a : List ℕ) (from : Address) (m : Message) 
           by false es er″ o = received t n a from m (outcome keep (one from (w .answer))) r t a o er″ (rw er″ back) refl ea
 
 -- ---- the two messages
-
-abbrev pub proposal : Ballot → Key → Job
-proposal b k = record { key = k; work = proposed b }
-
-abbrev pub acceptance : Ballot → Key → Option Value → Job
-acceptance b k v = record { key = k; work = accepted b v }
 
 -- the answer to a proposal says again what was put into the area
 propose-back : (b : Ballot) (r : Register) (from : Address) (a : List ℕ) → length (bytesOf (r .value)) ≤ length a → said (answerOf (one from (proposed b r .answer))) (writtenIn a (one from (proposed b r .answer))) ≡ one from (proposed b r .answer)

@@ -47,14 +47,20 @@ pub record Job : Type 0 where
   pub key : Key
   pub work : Register → Work
 
+abbrev pub proposal : Ballot → Key → Job
+proposal b k = record { key = k; work = proposed b }
+
+abbrev pub acceptance : Ballot → Key → Option Value → Job
+acceptance b k v = record { key = k; work = accepted b v }
+
 abbrev pub jobOf : Message → Option Job
 jobOf (Message.ClientRequest id r) = none
 jobOf (Message.ClientResponse id r) = none
 jobOf (Message.SetAcceptAcceptors l) = none
 jobOf (Message.SetProposeAcceptors l) = none
-jobOf (Message.ProposeReq b k) = some (record { key = k; work = proposed b })
+jobOf (Message.ProposeReq b k) = some (proposal b k)
 jobOf (Message.ProposeRes b a v r) = none
-jobOf (Message.AcceptReq b k v) = some (record { key = k; work = accepted b v })
+jobOf (Message.AcceptReq b k v) = some (acceptance b k v)
 jobOf (Message.AcceptRes b r) = none
 
 -- ---- a message on a table
