@@ -2,12 +2,12 @@
 -- Assumes nothing.
 use mathlib.Core.Path.{_≡_, refl, sym, ap, subst, _∙_}
 use mathlib.Core.Bool.{Bool, true, false, not, cond, false≢true, _||_}
-use mathlib.Core.List.{List, [], _∷_, _++_}
+use mathlib.Core.List.{List, []}
 use mathlib.Core.Option.{Option, none, some}
 use Prim.Native.Nat.{ℕ, _+_, _^_, _<_, max}
 use borrow.Author.Tests.{not-true, not-false}
 use lib.Dec.{leb}
-use lib.ListN.{length, length-append}
+use lib.ListN.{length}
 use lib.Seq.{sets}
 use Rattle.messages.specs.declared.Address.{Address}
 use Rattle.messages.specs.declared.Ballot.{Ballot}
@@ -19,11 +19,10 @@ use Rattle.messages.specs.declared.Rpc.{Rpc}
 use Rattle.messages.specs.declared.answer.Answer.{Answer}
 use Rattle.messages.specs.declared.answer.Refusal.{Refusal}
 use Rattle.messages.specs.Message.{Value, Request, Failure, Result, Reply, given, failureOf}
-use Rattle.messages.specs.Limits.{listMost}
 use Rattle.messages.specs.Answers.{marked, bytesOf, answerOf, writtenIn}
 use Rattle.messages.specs.Refusals.{pickFirst, firstDue}
 use Rattle.proposer_rules.specs.State.{Phase, Pending, Proposer, listed, withNo, withYes}
-use Rattle.proposer_rules.specs.Rules.{Outcome, outcome, unless, moved, majorityOf, reached, raised, Applied, sameValue, applied, requestIn, replyOf, toClient, pendingAt, replaceAt, firstPhase, foreignAcceptance, acceptanceTests, taken, turnedDown, acceptanceWork, onAcceptance}
+use Rattle.proposer_rules.specs.Rules.{Outcome, outcome, unless, moved, majorityOf, reached, raised, Applied, sameValue, applied, requestIn, replyOf, toClient, pendingAt, replaceAt, firstPhase, foreignAcceptance, acceptanceTests, acceptanceWork, onAcceptance}
 use Rattle.proposer_place.specs.declared.front.Phase as Code
 use Rattle.proposer_place.specs.declared.front.Front.{Front}
 use Rattle.proposer_place.specs.Area.{headerBytes, placeImage, areaImage, readPlaces, readPending, readArea}
@@ -37,6 +36,7 @@ use Rattle.proposer_area.specs.HeldLaws.{with-place, lawful-pending}
 use Rattle.proposer.specs.Works.{Asks, Worked, placed, settled}
 use Rattle.proposer.specs.WorksLaws.{refused-work, due-none}
 use Rattle.proposer.specs.PromiseLaws.{values, promised, applied-is}
+use Rattle.proposer.specs.GrantLaws.{more}
 use Rattle.proposer.specs.AskLaws.{found-only, first-phase, second-phase}
 
 -- ---- the request settled
@@ -79,9 +79,6 @@ module _ (a w : List ℕ) (n i : ℕ) (f : Front) (held : Held a n) (pends : Pen
       }
 
 -- ---- an acceptance, and a refused one, whose sender may answer
-
-more : (l : List ℕ) (x : ℕ) → length (l ++ (x ∷ [])) ≡ length l + 1
-more l x = length-append l (x ∷ [])
 
 module _ (a w : List ℕ) (n i : ℕ) (f : Front) (from : Address) (short : Bool) (held : Held a n) (asks : Asks a n i) (ef : f ≡ frontOf (readPending (placeIn a i))) where
   abbrev state : Proposer

@@ -1,18 +1,23 @@
 -- Answerers that stand in the waited-for list and answered once are no more than its entries: there is room to note one more.
 -- Assumes nothing.
 use mathlib.Core.Path.{_≡_, refl, sym, _∙_}
-use mathlib.Core.Bool.{Bool, true, false, not, cond, false≢true, _&&_, _||_}
+use mathlib.Core.Bool.{Bool, true, false, not, cond, false≢true, _||_}
 use mathlib.Core.List.{List, [], _∷_, _++_}
 use Prim.Native.Nat.{ℕ, suc, _+_, _≤_, _<_}
 use native.Mathlib.Omega.{arith}
 use native.Mathlib.Decide.{ℕ-discrete}
-use borrow.Author.Tests.{eqb-true, eq-eqb, ne-eqb, not-true, leb-true}
-use lib.Dec.{eqb, leb}
+use borrow.Author.Tests.{eq-eqb, ne-eqb, not-true}
+use lib.Dec.{eqb}
 use lib.ListN.{length, length-append}
 use Rattle.leaf_fields.specs.Laws.{and-true}
-use Rattle.messages.specs.Limits.{listMost, noneZero, listFits}
+use Rattle.messages.specs.Limits.{listMost}
 use Rattle.proposer_rules.specs.State.{Pending, listed}
 use Rattle.proposer_place.specs.Area.{distinct, allListed, answersFit}
+
+-- neither of two tests holds
+pub or-false : (t u : Bool) → (t || u) ≡ false → (t ≡ false) × (u ≡ false)
+or-false true u e = absurd (false≢true (sym e))
+or-false false u e = (refl, e)
 
 -- ---- a list without one entry
 
@@ -48,12 +53,8 @@ unfolding allListed listed
 all-without x [] l h all = refl
 all-without x (y ∷ xs) l h all =
     let parts = and-true (listed y l) (allListed xs l) all in
-    let apart = neither (eqb y x) (listed x xs) h in
+    let apart = or-false (eqb y x) (listed x xs) h in
     rw (listed-without x y l (λ e. absurd (false≢true (sym (apart .0) ∙ eq-eqb y x (sym e)))) (parts .0)) (all-without x xs l (apart .1) (parts .1))
-  where
-    neither : (t u : Bool) → (t || u) ≡ false → (t ≡ false) × (u ≡ false)
-    neither true u e = absurd (false≢true (sym e))
-    neither false u e = (refl, e)
 
 -- distinct entries of a list are no more than the list has
 pub no-more : (xs l : List ℕ) → distinct xs ≡ true → allListed xs l ≡ true → length xs ≤ length l

@@ -1,26 +1,24 @@
 -- The request that an answer is for: silence where there is none, the refusals of its sender, and what a sender that may answer gives the works.
 -- Assumes nothing.
 use mathlib.Core.Path.{_≡_, refl, sym, ap, subst, _∙_}
-use mathlib.Core.Bool.{Bool, true, false, not, false≢true, _&&_, _||_}
-use mathlib.Core.List.{List, [], _∷_, _++_}
+use mathlib.Core.Bool.{Bool, true, false, not, _&&_, _||_}
+use mathlib.Core.List.{List, [], _∷_}
 use mathlib.Core.Option.{Option, none, some}
-use Prim.Native.Nat.{ℕ, zero, suc, _≤_, _<_}
+use Prim.Native.Nat.{ℕ, zero, suc, _<_}
 use native.Mathlib.Omega.{arith}
 use lib.Dec.{leb}
-use lib.ListN.{length, getD, set}
+use lib.ListN.{getD, set}
 use Rattle.leaf_fields.specs.Laws.{and-true}
 use Rattle.messages.specs.declared.Address.{Address}
 use Rattle.messages.specs.declared.Ballot.{Ballot}
-use Rattle.messages.specs.declared.Error.{Error}
-use Rattle.messages.specs.declared.Res.{Res}
 use Rattle.messages.specs.declared.answer.Answer.{Answer}
 use Rattle.messages.specs.declared.answer.Refusal.{Refusal}
-use Rattle.messages.specs.Message.{Value, Failure, Result, resultOf}
-use Rattle.messages.specs.Limits.{listMost, listFits}
+use Rattle.messages.specs.Message.{Value, Failure, Result}
+use Rattle.messages.specs.Limits.{listFits}
 use Rattle.messages.specs.Answers.{nothing}
 use Rattle.messages.specs.Refusals.{pickFirst, firstDue}
 use Rattle.proposer_rules.specs.State.{Phase, Propose, Accept, Pending, Proposer, listed}
-use Rattle.proposer_rules.specs.Rules.{Outcome, outcome, unless, pendingAt, replaceAt, foreignPromise, promiseTests, acceptanceTests, promiseWork, acceptanceWork, inFirst, onPromise, onAcceptance}
+use Rattle.proposer_rules.specs.Rules.{Outcome, outcome, unless, pendingAt, replaceAt, foreignPromise, promiseTests, promiseWork, inFirst, onPromise, onAcceptance}
 use Rattle.proposer_place.specs.declared.front.Phase as Code
 use Rattle.proposer_place.specs.declared.front.Front.{Front}
 use Rattle.proposer_place.specs.Area.{headerBytes, placeImage, areaImage, readPlaces, readPending, readArea, distinct, promiseFits, sizesFit, answersFit, pendingFits, placesFit, ballotsOf, mayBeLent}
@@ -31,8 +29,8 @@ use Rattle.proposer_area.specs.PlacesLaws.{FoundAt, find-some, find-none}
 use Rattle.proposer_area.specs.Held.{Held, Pends}
 use Rattle.proposer_area.specs.HeldLaws.{place-image, lawful-at, lawful-pending}
 use Rattle.proposer.specs.Works.{Asks, Worked, granting, rejecting}
-use Rattle.proposer.specs.WorksLaws.{refused-work, due-none}
-use Rattle.proposer.specs.Answerers.{room-for-one}
+use Rattle.proposer.specs.WorksLaws.{refused-work}
+use Rattle.proposer.specs.Answerers.{or-false, room-for-one}
 
 -- ---- silence
 
@@ -108,16 +106,12 @@ answers-fit s i p lent e =
     let toPromise = and-true (sizes && answers) promise (toLow .0) in
     and-true sizes answers (toPromise .0) .1
 
-neither : (t u : Bool) → (t || u) ≡ false → (t ≡ false) × (u ≡ false)
-neither true u e = absurd (false≢true (sym e))
-neither false u e = (refl, e)
-
 -- place i as the works need it, once its sender is seen to be waited for and not to have answered
 pub may-answer : (a : List ℕ) (n i : ℕ) (ballot : Ballot) (from : Address) (answered waited : Bool) → Held a n → mayBeLent (readArea a n) ≡ true → i ≡ placeOf ballot (readPlaces a headerBytes n) → i < n → answered ≡ (listed (from .0) (readPending (placeIn a i) .acksFrom) || listed (from .0) (readPending (placeIn a i) .nacksFrom)) → answered ≡ false → waited ≡ listed (from .0) (readPending (placeIn a i) .waitingFor) → waited ≡ true → Asks a n i
 may-answer a n i ballot from answered waited held lent ei within ea not-yet ew there =
     let p = readPending (placeIn a i) in
     let pends = found-pends a [] n i ballot held ei within in
-    let apart = neither (listed (from .0) (p .acksFrom)) (listed (from .0) (p .nacksFrom)) (sym ea ∙ not-yet) in
+    let apart = or-false (listed (from .0) (p .acksFrom)) (listed (from .0) (p .nacksFrom)) (sym ea ∙ not-yet) in
     let room = room-for-one p (from .0) (answers-fit (readArea a n) i p lent (pends .used)) (lawful-pending a n held i pends .waited .short) (apart .0) (apart .1) (sym ew ∙ there) in
     record { pends = pends; there = found-replaced a [] n i ballot held ei within; more-yeses = room .0; more-noes = room .1 }
 

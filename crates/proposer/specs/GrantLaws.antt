@@ -1,16 +1,16 @@
 -- Promises and refused proposals of a request whose sender may answer: each return of the code is the rules' outcome.
 -- Assumes nothing.
 use mathlib.Core.Path.{_≡_, refl, sym, ap, subst, _∙_}
-use mathlib.Core.Bool.{Bool, true, false, not, cond, _&&_}
+use mathlib.Core.Bool.{Bool, true, false, not, cond}
 use mathlib.Core.List.{List, [], _∷_, _++_}
 use mathlib.Core.Option.{Option, none, some}
-use Prim.Native.Nat.{ℕ, zero, suc, _+_, _^_, _≤_, _<_, max}
+use Prim.Native.Nat.{ℕ, zero, suc, _+_, _^_, _<_, max}
 use native.Mathlib.Omega.{arith}
-use borrow.Author.Tests.{not-true, not-false, le-leb, lt-leb, leb-true, leb-false}
-use lib.Dec.{eqb, leb}
+use borrow.Author.Tests.{not-true, not-false, le-leb, lt-leb}
+use lib.Dec.{leb}
 use lib.ListN.{length, getD, set, length-append}
 use lib.Seq.{sets}
-use Rattle.leaf_fields.specs.Fields.{toLe, part}
+use Rattle.leaf_fields.specs.Fields.{toLe}
 use Rattle.messages.specs.declared.Address.{Address}
 use Rattle.messages.specs.declared.Ballot.{Ballot}
 use Rattle.messages.specs.declared.OptionValue.{OptionValue}
@@ -25,9 +25,9 @@ use Rattle.messages.specs.Limits.{valueMost, listMost}
 use Rattle.messages.specs.Answers.{bytesOf, answerOf, nothing}
 use Rattle.messages.specs.Refusals.{test, firstDue}
 use Rattle.proposer_rules.specs.State.{Pending, Proposer, withNo, withYes}
-use Rattle.proposer_rules.specs.Rules.{Outcome, outcome, moved, majorityOf, majority, reached, counterMost, raised, usedUp, promisedBy, toAccept, toClient, replaceAt, granted, rejected, promiseAbove, promiseWork, noBallot}
+use Rattle.proposer_rules.specs.Rules.{outcome, moved, majorityOf, reached, counterMost, raised, usedUp, promisedBy, toAccept, toClient, replaceAt, granted, rejected, promiseAbove, noBallot}
 use Rattle.proposer_place.specs.declared.front.Front.{Front}
-use Rattle.proposer_place.specs.Area.{counterAt, placeImage, areaImage, readPlace, readPlaces, readPending, readArea}
+use Rattle.proposer_place.specs.Area.{counterAt, placeImage, areaImage, readPending, readArea}
 use Rattle.proposer_place.specs.AreaLaws.{Short, Lawful, LawfulState, read-written, read-pending}
 use Rattle.proposer_place.specs.Front.{frontOf}
 use Rattle.proposer_place.specs.PlaceLaws.{lawful-yes, lawful-no, area-part, lawful-place-set}
@@ -100,7 +100,7 @@ promised-lawful p from b v ok fits room high short = go (above b (p .promised))
     go false = lawful-yes p ok from (p .promised) (p .value) fits room (ok .promised-fits) (ok .promised)
 
 -- one more answer in a count
-more : (l : List ℕ) (x : ℕ) → length (l ++ (x ∷ [])) ≡ length l + 1
+pub more : (l : List ℕ) (x : ℕ) → length (l ++ (x ∷ [])) ≡ length l + 1
 more l x = length-append l (x ∷ [])
 
 -- ---- an Ok promise

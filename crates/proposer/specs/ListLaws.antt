@@ -1,9 +1,8 @@
 -- The header's lists: an area with another list is the image of the state with that list, and the start's area comes of zeros so.
 -- Assumes nothing.
 use mathlib.Core.Path.{_≡_, refl, sym, ap, _∙_}
-use mathlib.Core.Bool.{true, _&&_}
-use mathlib.Core.List.{List, [], _∷_, _++_, append-assoc}
-use mathlib.Core.Option.{none}
+use mathlib.Core.Bool.{true}
+use mathlib.Core.List.{List, [], _++_, append-assoc}
 use Prim.Native.Nat.{ℕ, zero, suc, _+_, _*_, _≤_}
 use native.Mathlib.Omega.{arith}
 use borrow.Author.Tests.{leb-true}
@@ -14,11 +13,11 @@ use Rattle.leaf_fields.specs.Fields.{toLe}
 use Rattle.leaf_fields.specs.Laws.{and-true}
 use Rattle.messages.specs.Limits.{listMost, noneZero, listFits}
 use Rattle.messages.specs.Answers.{entryBytes}
-use Rattle.proposer_rules.specs.State.{Pending, Proposer}
+use Rattle.proposer_rules.specs.State.{Proposer}
 use Rattle.proposer_rules.specs.Rules.{withLists, emptyPlaces, start}
-use Rattle.proposer_place.specs.Area.{timeoutAt, acceptCountAt, proposeCountAt, acceptListAt, proposeListAt, headerBytes, listBytes, placeBytes, areaBytes, padded, listRow, placeImage, placesImage, headerFront, areaImage, readArea, sized}
+use Rattle.proposer_place.specs.Area.{timeoutAt, acceptCountAt, proposeCountAt, acceptListAt, proposeListAt, headerBytes, placeBytes, areaBytes, padded, listRow, placeImage, placesImage, headerFront, areaImage, readArea, sized}
 use Rattle.proposer_place.specs.AreaRows.{length-list}
-use Rattle.proposer_place.specs.Rows.{sets-middle, sets-whole, padded-nothing}
+use Rattle.proposer_place.specs.Rows.{sets-middle, sets-whole}
 use Rattle.proposer_area.specs.Held.{Held}
 use Rattle.proposer_area.specs.HeldLaws.{size-of}
 

@@ -1,20 +1,20 @@
 -- The new value of a pending request by the bytes that its place holds: as the rules have it, and short.
 -- Assumes nothing.
-use mathlib.Core.Path.{_≡_, refl, ap, _∙_}
-use mathlib.Core.Bool.{Bool, true, false, not, cond}
+use mathlib.Core.Path.{_≡_, refl}
+use mathlib.Core.Bool.{Bool, true, false, cond}
 use mathlib.Core.List.{append-nil}
 use mathlib.Core.Option.{Option, none, some}
 use Prim.Native.Nat.{_≤_}
 use native.Mathlib.Omega.{arith}
-use lib.ListN.{length, take, drop}
+use lib.ListN.{length}
 use lib.Seq.{take-at, drop-at}
 use Rattle.messages.specs.Message.{Value, Request, given}
 use Rattle.messages.specs.Limits.{valueMost}
 use Rattle.messages.specs.Answers.{marked, bytesOf, requestRpc}
-use Rattle.proposer_rules.specs.Rules.{Applied, sameValue, applied, requestIn}
+use Rattle.proposer_rules.specs.Rules.{sameValue, applied, requestIn}
 use Rattle.proposer_place.specs.Area.{firstValue, secondValue, valuesOf}
 
-given-back : (v : Option Value) → given (marked v) (bytesOf v) ≡ v
+pub given-back : (v : Option Value) → given (marked v) (bytesOf v) ≡ v
 given-back none = refl
 given-back (some v) = refl
 

@@ -1,28 +1,23 @@
 -- Answers and places that fit a state that may be lent still fit it after each change that a message or a tick makes, and pending ballots stay distinct.
 -- Assumes nothing.
 use mathlib.Core.Path.{_≡_, refl, sym, ap, _∙_}
-use mathlib.Core.Bool.{Bool, true, false, not, cond, false≢true, _&&_, _||_}
+use mathlib.Core.Bool.{Bool, true, false, not, cond, false≢true, _&&_}
 use mathlib.Core.List.{List, [], _∷_, _++_}
 use mathlib.Core.Option.{Option, none, some}
-use Prim.Native.Nat.{ℕ, zero, suc, _+_, _^_, _≤_, _<_, max}
+use Prim.Native.Nat.{ℕ, _+_, _≤_, _<_}
 use native.Mathlib.Omega.{arith}
-use native.Mathlib.Decide.{ℕ-discrete}
-use borrow.Author.Tests.{eqb-true, eqb-false, eq-eqb, ne-eqb, leb-true, le-leb, lt-ltb, ltb-true, not-true, not-false}
-use lib.Dec.{eqb, leb, ltb}
-use lib.ListN.{length, length-append}
+use borrow.Author.Tests.{eqb-true, eq-eqb, ne-eqb, leb-true, le-leb, not-true}
+use lib.Dec.{eqb, leb}
 use Rattle.leaf_fields.specs.Laws.{and-true}
 use Rattle.messages.specs.declared.Ballot.{Ballot}
 use Rattle.proposer_rules.specs.State.{Pending, Proposer, listed}
 use Rattle.proposer_rules.specs.Rules.{isBallot, replaceAt, takePlace, late, inTime}
-use Rattle.proposer_place.specs.Area.{distinct, allListed, promiseFits, sizesFit, answersFit, pendingFits, placesFit, ballotsOf, mayBeLent}
+use Rattle.proposer_place.specs.Area.{distinct, allListed, promiseFits, sizesFit, answersFit, pendingFits, placesFit, ballotsOf}
 use Rattle.proposer_area.specs.Good.{noneListed}
+use Rattle.proposer.specs.Answerers.{or-false}
 use Rattle.proposer_area.specs.Lists.{all-listed-append, distinct-append}
 
 -- ---- lists of numbers
-
-either : (t u : Bool) → (t || u) ≡ false → (t ≡ false) × (u ≡ false)
-either true u e = absurd (false≢true (sym e))
-either false u e = (refl, e)
 
 eqb-turn : (x y : ℕ) → eqb x y ≡ false → eqb y x ≡ false
 eqb-turn x y h = ne-eqb y x (λ e. absurd (false≢true (sym h ∙ eq-eqb x y (sym e))))
@@ -32,7 +27,7 @@ none-of-one : (x : ℕ) (l : List ℕ) → listed x l ≡ false → noneListed l
 unfolding noneListed listed
 none-of-one x [] h = refl
 none-of-one x (y ∷ l) h =
-    let parts = either (eqb y x) (listed x l) h in
+    let parts = or-false (eqb y x) (listed x l) h in
     rw (eqb-turn y x (parts .0), none-of-one x l (parts .1))
 
 none-append : (l m k : List ℕ) → noneListed (l ++ m) k ≡ (noneListed l k && noneListed m k)
@@ -48,7 +43,7 @@ listed-last : (x y : ℕ) (l : List ℕ) → listed y l ≡ false → eqb x y �
 unfolding listed
 listed-last x y [] h e = rw e
 listed-last x y (z ∷ l) h e =
-    let parts = either (eqb z y) (listed y l) h in
+    let parts = or-false (eqb z y) (listed y l) h in
     rw (parts .0, listed-last x y l (parts .1) e)
 
 -- and none stands in a longer list
@@ -56,7 +51,7 @@ none-longer : (x : ℕ) (l k : List ℕ) → listed x l ≡ false → noneListed
 unfolding noneListed listed
 none-longer x [] k h n = refl
 none-longer x (y ∷ l) k h n =
-    let parts = either (eqb y x) (listed x l) h in
+    let parts = or-false (eqb y x) (listed x l) h in
     let apart = and-true (not (listed y k)) (noneListed l k) n in
     rw (listed-last x y k (not-true _ (apart .0)) (eqb-turn y x (parts .0)), none-longer x l k (parts .1) (apart .1))
 
@@ -194,7 +189,7 @@ unfolding ballotsOf replaceAt listed
 not-listed-dropped x b [] h = refl
 not-listed-dropped x b (none ∷ l) h = not-listed-dropped x b l h
 not-listed-dropped x b (some q ∷ l) h =
-    let parts = either (eqb (q .ballot .0) x) (listed x (ballotsOf l)) h in
+    let parts = or-false (eqb (q .ballot .0) x) (listed x (ballotsOf l)) h in
     go (isBallot b q) (parts .1) (rw (parts .0, not-listed-dropped x b l (parts .1)))
   where
     go : (t : Bool) → listed x (ballotsOf l) ≡ false → listed x (ballotsOf (some q ∷ replaceAt b none l)) ≡ false → listed x (ballotsOf (cond t (none ∷ l) (some q ∷ replaceAt b none l))) ≡ false
@@ -219,7 +214,7 @@ unfolding ballotsOf replaceAt listed
 not-listed-fresh x b p [] h ne = refl
 not-listed-fresh x b p (none ∷ l) h ne = not-listed-fresh x b p l h ne
 not-listed-fresh x b p (some q ∷ l) h ne =
-    let parts = either (eqb (q .ballot .0) x) (listed x (ballotsOf l)) h in
+    let parts = or-false (eqb (q .ballot .0) x) (listed x (ballotsOf l)) h in
     go (isBallot b q) (rw (ne, parts .1)) (rw (parts .0, not-listed-fresh x b p l (parts .1) ne))
   where
     go : (t : Bool) → listed x (ballotsOf (some p ∷ l)) ≡ false → listed x (ballotsOf (some q ∷ replaceAt b (some p) l)) ≡ false → listed x (ballotsOf (cond t (some p ∷ l) (some q ∷ replaceAt b (some p) l))) ≡ false
@@ -232,7 +227,7 @@ distinct-fresh b p [] d fresh = refl
 distinct-fresh b p (none ∷ l) d fresh = distinct-fresh b p l d fresh
 distinct-fresh b p (some q ∷ l) d fresh =
     let parts = and-true (not (listed (q .ballot .0) (ballotsOf l))) (distinct (ballotsOf l)) d in
-    let new = either (eqb (q .ballot .0) (p .ballot .0)) (listed (p .ballot .0) (ballotsOf l)) fresh in
+    let new = or-false (eqb (q .ballot .0) (p .ballot .0)) (listed (p .ballot .0) (ballotsOf l)) fresh in
     go (isBallot b q) (rw (new .1, parts .1))
     (rw (not-listed-fresh (q .ballot .0) b p l (not-true _ (parts .0)) (eqb-turn (q .ballot .0) (p .ballot .0) (new .0)), distinct-fresh b p l (parts .1) (new .1)))
   where
@@ -245,7 +240,7 @@ unfolding ballotsOf takePlace listed
 not-listed-taken x p [] h ne = refl
 not-listed-taken x p (none ∷ l) h ne = rw (ne, h)
 not-listed-taken x p (some q ∷ l) h ne =
-    let parts = either (eqb (q .ballot .0) x) (listed x (ballotsOf l)) h in
+    let parts = or-false (eqb (q .ballot .0) x) (listed x (ballotsOf l)) h in
     rw (parts .0, not-listed-taken x p l (parts .1) ne)
 
 pub distinct-taken : (p : Pending) (l : List (Option Pending)) → distinct (ballotsOf l) ≡ true → listed (p .ballot .0) (ballotsOf l) ≡ false → distinct (ballotsOf (takePlace p l)) ≡ true
@@ -254,7 +249,7 @@ distinct-taken p [] d fresh = refl
 distinct-taken p (none ∷ l) d fresh = rw (fresh, d)
 distinct-taken p (some q ∷ l) d fresh =
     let parts = and-true (not (listed (q .ballot .0) (ballotsOf l))) (distinct (ballotsOf l)) d in
-    let new = either (eqb (q .ballot .0) (p .ballot .0)) (listed (p .ballot .0) (ballotsOf l)) fresh in
+    let new = or-false (eqb (q .ballot .0) (p .ballot .0)) (listed (p .ballot .0) (ballotsOf l)) fresh in
     rw (not-listed-taken (q .ballot .0) p l (not-true _ (parts .0)) (eqb-turn (q .ballot .0) (p .ballot .0) (new .0)), distinct-taken p l (parts .1) (new .1))
 
 -- ---- late requests dropped
@@ -276,7 +271,7 @@ unfolding ballotsOf inTime listed
 not-listed-in-time s t x [] h = refl
 not-listed-in-time s t x (none ∷ l) h = not-listed-in-time s t x l h
 not-listed-in-time s t x (some p ∷ l) h =
-    let parts = either (eqb (p .ballot .0) x) (listed x (ballotsOf l)) h in
+    let parts = or-false (eqb (p .ballot .0) x) (listed x (ballotsOf l)) h in
     go (late s t p) (not-listed-in-time s t x l (parts .1)) (parts .0)
   where
     go : (z : Bool) → listed x (ballotsOf (inTime s t l)) ≡ false → eqb (p .ballot .0) x ≡ false → listed x (ballotsOf (cond z none (some p) ∷ inTime s t l)) ≡ false

@@ -1,13 +1,13 @@
 -- The works of the first phase: the second phase begins, the request is proposed anew or dropped, an answer is noted.
 -- Assumes nothing.
-use mathlib.Core.Path.{_≡_, refl, sym, ap, _∙_}
-use mathlib.Core.Bool.{true, false, cond}
+use mathlib.Core.Path.{_≡_, sym, ap, _∙_}
+use mathlib.Core.Bool.{cond}
 use mathlib.Core.List.{List, []}
-use mathlib.Core.Option.{Option, none, some}
+use mathlib.Core.Option.{Option, some}
 use Prim.Native.Nat.{ℕ, _+_, _-_, _*_, _^_, _≤_, _<_}
 use native.Mathlib.Omega.{arith}
 use lib.Dec.{eqb}
-use lib.ListN.{length, take, drop, set}
+use lib.ListN.{length, take, drop}
 use lib.Seq.{sets}
 use Rattle.leaf_fields.specs.Fields.{toLe, part}
 use Rattle.messages.specs.declared.Ballot.{Ballot}
@@ -16,12 +16,12 @@ use Rattle.messages.specs.declared.Req.{Req}
 use Rattle.messages.specs.declared.Rpc.{Rpc}
 use Rattle.messages.specs.declared.answer.Answer.{Answer}
 use Rattle.messages.specs.Message.{Key, Value, Message, given}
-use Rattle.messages.specs.Limits.{valueMost, listMost}
-use Rattle.messages.specs.Answers.{bytesOf, entries, entryBytes, marked, requestRpc}
+use Rattle.messages.specs.Limits.{valueMost}
+use Rattle.messages.specs.Answers.{bytesOf, entries, entryBytes, marked}
 use Rattle.proposer_rules.specs.State.{Pending, Proposer, keyOf, secondPhase, askedAgain}
-use Rattle.proposer_rules.specs.Rules.{Applied, applied, requestIn, nextBallot, moved}
+use Rattle.proposer_rules.specs.Rules.{Applied, applied, requestIn, nextBallot}
 use Rattle.proposer_place.specs.declared.front.Front.{Front}
-use Rattle.proposer_place.specs.Area.{counterAt, headerBytes, keyStart, valuesAt, promisedValueAt, placeBytes, firstValue, secondValue, valuesOf, placeImage, areaImage, readPending, readArea}
+use Rattle.proposer_place.specs.Area.{counterAt, keyStart, valuesAt, promisedValueAt, valuesOf, placeImage, readPending, readArea}
 use Rattle.proposer_place.specs.AreaRows.{length-entries}
 use Rattle.proposer_place.specs.AreaLaws.{Lawful}
 use Rattle.proposer_place.specs.Front.{frontOf}

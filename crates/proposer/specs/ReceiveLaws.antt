@@ -1,12 +1,11 @@
 -- The public operations: refusals 1 and 2 of their lent areas, and the works on an area that is an image.
 -- Assumes nothing.
 use mathlib.Core.Path.{_≡_, refl, sym, ap, _∙_}
-use mathlib.Core.Bool.{Bool, true, false, not, _&&_}
-use mathlib.Core.List.{List, []}
+use mathlib.Core.Bool.{Bool, true, false}
+use mathlib.Core.List.{List}
 use mathlib.Core.Option.{Option, none, some}
 use Prim.Native.Nat.{ℕ}
 use borrow.Author.Tests.{eq-eqb, ne-eqb}
-use lib.Dec.{eqb}
 use lib.ListN.{length}
 use Rattle.messages.specs.declared.Address.{Address}
 use Rattle.messages.specs.declared.answer.Answer.{Answer}
@@ -14,12 +13,12 @@ use Rattle.messages.specs.declared.answer.Refusal.{Refusal}
 use Rattle.messages.specs.Message.{Message}
 use Rattle.messages.specs.Limits.{listFits, withinLimits}
 use Rattle.messages.specs.Refusals.{firstDue}
-use Rattle.messages.specs.Answers.{Told, nothing, one, each, timeouts, refused, answerOf}
+use Rattle.messages.specs.Answers.{Told, nothing, one, each, timeouts, refused}
 use Rattle.proposer_rules.specs.State.{Proposer}
-use Rattle.proposer_rules.specs.Rules.{Outcome, outcome, unless, foreign, messageTests, work, receive, tick, start}
+use Rattle.proposer_rules.specs.Rules.{Outcome, unless, foreign, messageTests, work, receive, tick, start}
 use Rattle.proposer_place.specs.Area.{areaImage, readArea, sized, isImage}
 use Rattle.proposer_area.specs.Held.{Held}
-use Rattle.proposer.specs.Contract.{answerBytes, areaTests, outcomeOn, tickOn, startTests, startOn, areaAfter, Done, Started}
+use Rattle.proposer.specs.Contract.{answerBytes, areaTests, outcomeOn, tickOn, startOn, areaAfter, Done, Started}
 use Rattle.proposer.specs.Works.{Worked}
 use Rattle.proposer.specs.WorksLaws.{refused-work, due-none}
 use Rattle.proposer.specs.Refused.{Keeps, message-keeps, tick-keeps}

@@ -11,7 +11,7 @@ use Rattle.messages.specs.declared.Ballot.{Ballot}
 use Rattle.messages.specs.declared.answer.Refusal.{Refusal}
 use Rattle.messages.specs.Message.{Value, Failure, Result, Reply, Message}
 use Rattle.messages.specs.Refusals.{test, firstDue}
-use Rattle.messages.specs.Answers.{Row, Told, nothing, one, each, timeouts, refused}
+use Rattle.messages.specs.Answers.{Row, nothing, one, refused}
 use Rattle.proposer_rules.specs.State.{Phase, Propose, Accept, Pending, Proposer, keyOf, withNo, withYes}
 use Rattle.proposer_rules.specs.Rules.{Outcome, outcome, unless, toEach, allTimeouts, applied, replyOf, nextBallot, reached, raised, asked, withLists, promisedBy, toAccept, pendingAt, replaceAt, takePlace, messageTests, promiseTests, acceptanceTests, requestTests, rejected, granted, promiseWork, inFirst, onPromise, turnedDown, taken, acceptanceWork, onAcceptance, work, receive, clockBack, inTime, lateOnes, rowsOf, moved, tick}
 

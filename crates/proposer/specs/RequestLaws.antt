@@ -2,36 +2,34 @@
 -- Assumes nothing.
 use mathlib.Core.Path.{_≡_, refl, sym, ap, _∙_}
 use mathlib.Core.Bool.{true, false, not, cond}
-use mathlib.Core.List.{List, [], _∷_, _++_}
+use mathlib.Core.List.{List, [], _++_}
 use mathlib.Core.Option.{Option, none, some}
 use Prim.Native.Nat.{ℕ, _+_, _-_, _*_, _^_, _≤_, _<_}
 use native.Mathlib.Omega.{arith}
-use borrow.Author.Tests.{le-leb, lt-leb, leb-true}
-use lib.Dec.{eqb, leb}
-use lib.ListN.{length, take, drop, getD, set}
+use borrow.Author.Tests.{le-leb, lt-leb}
+use lib.Dec.{eqb}
+use lib.ListN.{length, take, drop, set}
 use lib.Seq.{sets}
 use Rattle.leaf_fields.specs.Fields.{toLe, byte, Bytes}
 use Rattle.leaf_fields.specs.Laws.{and-true}
 use Rattle.leaf_fields.specs.Rows.{bytes-none}
 use Rattle.messages.specs.declared.Address.{Address}
-use Rattle.messages.specs.declared.Ballot.{Ballot}
 use Rattle.messages.specs.declared.OptionValue.{OptionValue}
 use Rattle.messages.specs.declared.Req.{Req}
 use Rattle.messages.specs.declared.Rpc.{Rpc}
 use Rattle.messages.specs.declared.answer.Answer.{Answer}
 use Rattle.messages.specs.declared.answer.Refusal.{Refusal}
-use Rattle.messages.specs.Ballots.{ballot0}
-use Rattle.messages.specs.Message.{Key, Value, Request, Message, requestOf, given}
+use Rattle.messages.specs.Message.{Request, Message, requestOf, given}
 use Rattle.messages.specs.Limits.{keyMost, valueMost, requestFits, withinLimits}
 use Rattle.messages.specs.Refusals.{firstDue}
-use Rattle.messages.specs.Answers.{entriesAt, bytesOf, entryBytes, requestRpc}
+use Rattle.messages.specs.Answers.{bytesOf, entryBytes, requestRpc}
 use Rattle.messages.specs.Fit.{marked-given}
-use Rattle.proposer_rules.specs.State.{Pending, Proposer, keyOf, newPending}
+use Rattle.proposer_rules.specs.State.{Pending, Proposer, keyOf}
 use Rattle.proposer_rules.specs.Rules.{usedUp, noPlace, counterMost, nextBallot, asked, proposals, requestTests, moved, onRequest}
 use Rattle.proposer_place.specs.declared.front.Phase as Code
 use Rattle.proposer_place.specs.declared.front.Front.{Front}
-use Rattle.proposer_place.specs.Area.{headerBytes, counterAt, firstValue, secondValue, padded, listRow, placeFront, placeValues, placeRest, placeImage, areaImage, readPlaces, readArea}
-use Rattle.proposer_place.specs.AreaLaws.{Lawful, LawfulPlace, ShortList}
+use Rattle.proposer_place.specs.Area.{headerBytes, counterAt, firstValue, secondValue, listRow, placeValues, placeRest, placeImage, areaImage, readPlaces, readArea}
+use Rattle.proposer_place.specs.AreaLaws.{Lawful}
 use Rattle.proposer_place.specs.AreaRows.{length-entries}
 use Rattle.proposer_place.specs.AreaRead.{short-request}
 use Rattle.proposer_place.specs.Front.{frontOf, frontBytes, placeRows}

@@ -1,27 +1,23 @@
 -- Nothing of an answer is lost: the enum and the answer area that a call leaves say 01's answer again.
 -- Assumes nothing.
 use mathlib.Core.Path.{_≡_, refl, sym, ap, _∙_}
-use mathlib.Core.Bool.{Bool, true, false, cond}
-use mathlib.Core.List.{List, [], _∷_, _++_, append-nil, append-assoc}
-use mathlib.Core.Option.{Option, none, some}
-use Prim.Native.Nat.{ℕ, zero, suc, _+_, _*_, _^_, _≤_, _<_}
+use mathlib.Core.List.{List, [], _∷_, _++_, append-assoc}
+use mathlib.Core.Option.{Option}
+use Prim.Native.Nat.{ℕ, suc, _+_, _^_, _≤_, _<_}
 use native.Mathlib.Omega.{arith}
 use lib.ListN.{length, getD, take, drop, length-take}
 use lib.Seq.{sets, sets-eq, length-sets, drop-at}
-use Rattle.leaf_fields.specs.Fields.{fromLe, toLe, part}
-use Rattle.leaf_fields.specs.Laws.{length-toLe, fromLe-toLe, part-same, part-before, part-after}
+use Rattle.leaf_fields.specs.Fields.{toLe, part}
+use Rattle.leaf_fields.specs.Laws.{length-toLe, fromLe-toLe, part-same, part-before}
 use Rattle.messages.specs.declared.Address.{Address}
 use Rattle.messages.specs.declared.Ballot.{Ballot}
-use Rattle.messages.specs.Message.{Key, Value, Failure, Reply, Message, given}
-use Rattle.messages.specs.Limits.{keyMost, valueMost, listMost}
-use Rattle.messages.specs.Answers.{Row, Told, nothing, one, each, timeouts, refused, keyAt, entriesAt, rowsAt, rowBytes, entries, rows, said, marked, bytesOf, replyValue, answerOf, entryBytes, rowsBytes, writtenIn}
+use Rattle.messages.specs.Message.{Key, Value, Failure, Reply, Message}
+use Rattle.messages.specs.Limits.{keyMost, valueMost}
+use Rattle.messages.specs.Answers.{Row, nothing, one, each, timeouts, keyAt, entriesAt, rowsAt, rowBytes, entries, rows, said, bytesOf, replyValue, answerOf, entryBytes, rowsBytes, writtenIn}
 use Rattle.proposer_rules.specs.Rules.{toEach}
+use Rattle.proposer.specs.NewValue.{given-back}
 use Rattle.proposer_place.specs.AreaRows.{row-there, row-behind, length-entries, entries-there}
 use Rattle.proposer_place.specs.AreaLaws.{ShortList}
-
-given-back : (v : Option Value) → given (marked v) (bytesOf v) ≡ v
-given-back none = refl
-given-back (some v) = refl
 
 -- the first bytes of an area, after its value is stored
 front-back : (w v : List ℕ) → length v ≤ length w → take (length v) (sets w 0 v) ≡ v

@@ -1,13 +1,13 @@
 -- What every message and tick is answered is said again by the enum and the answer area that the call leaves.
 -- Assumes nothing.
-use mathlib.Core.Path.{_≡_, refl, sym, ap, subst, _∙_}
-use mathlib.Core.Bool.{Bool, true, false, not, cond, _&&_, _||_}
+use mathlib.Core.Path.{_≡_, refl, ap}
+use mathlib.Core.Bool.{Bool, true, false, not, cond}
 use mathlib.Core.List.{List, [], _∷_}
 use mathlib.Core.Option.{Option, none, some}
 use Prim.Native.Nat.{ℕ, zero, suc, _+_, _*_, _^_, _≤_, _<_}
 use native.Mathlib.Omega.{arith}
 use borrow.Author.Tests.{not-false}
-use lib.Dec.{lit<, eqb}
+use lib.Dec.{lit<}
 use lib.ListN.{length, drop}
 use lib.Seq.{sets}
 use Rattle.leaf_fields.specs.Fields.{Bytes}
@@ -18,15 +18,15 @@ use Rattle.messages.specs.declared.answer.Answer.{Answer}
 use Rattle.messages.specs.declared.answer.Refusal.{Refusal}
 use Rattle.messages.specs.Ballots.{above}
 use Rattle.messages.specs.Message.{Value, Request, Failure, Result, Reply, Message}
-use Rattle.messages.specs.Limits.{keyMost, valueMost, listMost, optionFits, requestFits, resultFits, withinLimits}
+use Rattle.messages.specs.Limits.{keyMost, valueMost, optionFits, requestFits, resultFits, withinLimits}
 use Rattle.messages.specs.Refusals.{test, firstDue}
-use Rattle.messages.specs.Answers.{Row, Told, nothing, one, each, timeouts, refused, rowsAt, rowBytes, said, bytesOf, replyValue, answerOf, rowsBytes, writtenIn}
+use Rattle.messages.specs.Answers.{Row, nothing, each, timeouts, rowsAt, rowBytes, said, bytesOf, replyValue, answerOf, rowsBytes, writtenIn}
 use Rattle.messages.specs.Fit.{short-value}
 use Rattle.proposer_rules.specs.State.{Phase, Propose, Accept, Pending, Proposer, keyOf, withNo, withYes}
-use Rattle.proposer_rules.specs.Rules.{Outcome, outcome, unless, moved, toEach, toClient, proposals, applied, sameValue, replyOf, nextBallot, reached, raised, asked, withLists, promisedBy, toAccept, pendingAt, replaceAt, takePlace, messageTests, promiseTests, acceptanceTests, requestTests, rejected, granted, promiseWork, inFirst, onPromise, turnedDown, taken, firstPhase, acceptanceWork, onAcceptance, foreign, work, receive, clockBack, late, inTime, insert, lateOnes, rowsOf, allTimeouts, tick}
+use Rattle.proposer_rules.specs.Rules.{Outcome, outcome, unless, moved, toEach, toClient, proposals, applied, replyOf, nextBallot, reached, raised, asked, withLists, promisedBy, toAccept, pendingAt, replaceAt, takePlace, messageTests, promiseTests, acceptanceTests, requestTests, rejected, granted, promiseWork, inFirst, onPromise, turnedDown, taken, firstPhase, acceptanceWork, onAcceptance, foreign, work, receive, clockBack, late, inTime, insert, lateOnes, rowsOf, allTimeouts, tick}
 use Rattle.proposer_place.specs.Area.{firstValue, secondValue, readArea, isImage}
 use Rattle.proposer_area.specs.PlacesLaws.{length-late}
-use Rattle.proposer_place.specs.AreaLaws.{Short, Lawful, LawfulPlace, LawfulPlaces, LawfulState}
+use Rattle.proposer_place.specs.AreaLaws.{Short, Lawful, LawfulPlaces}
 use Rattle.proposer_place.specs.AreaRead.{short-request}
 use Rattle.proposer_place.specs.PlaceLaws.{lawful-yes}
 use Rattle.proposer.specs.Contract.{answerBytes, areaTests, outcomeOn, tickOn, Done}
@@ -34,7 +34,7 @@ use Rattle.proposer.specs.NewValue.{applied-short}
 use Rattle.proposer.specs.GrantLaws.{promised-lawful}
 use Rattle.proposer.specs.Said.{drop-stored, said-one, said-proposals, said-accepts, RowsFit, rows-there}
 use Rattle.proposer.specs.TickLaws.{length-rows, length-rows-of}
-use Rattle.proposer.specs.Stays.{TypedResult, TypedMessage, Lendable, Fit, MayAnswer, none-due, sender-may, pending-holds, room, within, lendable-read}
+use Rattle.proposer.specs.Stays.{TypedMessage, Lendable, Fit, none-due, sender-may, pending-holds, room, within, lendable-read}
 
 -- the enum and the area say the answer
 pub record Speaks (w : List ℕ) (o : Outcome) : Type 0 where

@@ -1,13 +1,13 @@
 -- What every message and tick makes of a state that may be lent: a state that may be lent, with a counter that has not fallen. So refusal 2 never comes of the proposer's own work.
 -- Assumes nothing.
 use mathlib.Core.Path.{_≡_, refl, sym, ap, subst, _∙_}
-use mathlib.Core.Bool.{Bool, true, false, not, cond, false≢true, _&&_, _||_}
+use mathlib.Core.Bool.{Bool, true, false, not, cond, _&&_, _||_}
 use mathlib.Core.List.{List, [], _∷_, _++_}
 use mathlib.Core.Option.{Option, none, some}
-use Prim.Native.Nat.{ℕ, zero, suc, _+_, _^_, _≤_, _<_, max}
+use Prim.Native.Nat.{ℕ, zero, suc, _+_, _^_, _≤_, _<_}
 use native.Mathlib.Omega.{arith}
-use borrow.Author.Tests.{eqb-true, ne-eqb, leb-true, leb-false, le-leb, ltb-true, not-true, not-false}
-use lib.Dec.{eqb, leb, ltb}
+use borrow.Author.Tests.{ne-eqb, leb-true, leb-false, le-leb, ltb-true, not-false}
+use lib.Dec.{eqb, leb}
 use lib.ListN.{length, length-append}
 use Rattle.leaf_fields.specs.Fields.{same, Bytes}
 use Rattle.leaf_fields.specs.Laws.{and-true}
@@ -17,7 +17,7 @@ use Rattle.messages.specs.declared.answer.Answer.{Answer}
 use Rattle.messages.specs.declared.answer.Refusal.{Refusal}
 use Rattle.messages.specs.Ballots.{above}
 use Rattle.messages.specs.Message.{Value, Request, Failure, Result, Reply, Message}
-use Rattle.messages.specs.Limits.{keyMost, valueMost, listMost, pendingMost, optionFits, requestFits, listFits, noneZero, resultFits, messageFits, withinLimits}
+use Rattle.messages.specs.Limits.{valueMost, listMost, optionFits, requestFits, listFits, noneZero, resultFits, messageFits, withinLimits}
 use Rattle.messages.specs.Refusals.{test, pickFirst, firstDue}
 use Rattle.messages.specs.Answers.{Told, nothing, one, each, timeouts, refused, bytesOf}
 use Rattle.messages.specs.Fit.{short-value}
@@ -25,12 +25,13 @@ use Rattle.proposer_rules.specs.State.{Phase, Propose, Accept, Pending, Propose
 use Rattle.proposer_rules.specs.Rules.{Outcome, outcome, unless, moved, toEach, toClient, proposals, applied, replyOf, raised, nextBallot, usedUp, counterMost, reached, asked, promisedBy, toAccept, withLists, isBallot, pickPending, pendingAt, replaceAt, takePlace, requestTests, onRequest, rejected, granted, promiseTests, promiseWork, inFirst, onPromise, turnedDown, taken, firstPhase, foreignAcceptance, acceptanceTests, acceptanceWork, onAcceptance, messageTests, foreign, work, receive, clockBack, late, inTime, lateOnes, rowsOf, allTimeouts, tick}
 use Rattle.proposer_place.specs.Area.{firstValue, secondValue, distinct, allListed, promiseFits, sizesFit, answersFit, pendingFits, placesFit, ballotsOf, mayBeLent, areaImage, readArea, sized, isImage}
 use Rattle.proposer_place.specs.AreaRows.{Entries}
-use Rattle.proposer_place.specs.AreaLaws.{Short, ShortList, Lawful, LawfulPlace, LawfulPlaces, LawfulState, image-is}
+use Rattle.proposer_place.specs.AreaLaws.{Short, Lawful, LawfulPlace, LawfulPlaces, LawfulState, image-is}
 use Rattle.proposer_place.specs.AreaRead.{short-request, lawful-read, image-lent}
-use Rattle.proposer_place.specs.PlaceLaws.{LawfulRequest, lawful-new, lawful-no, lawful-yes, lawful-second, lawful-again}
+use Rattle.proposer_place.specs.PlaceLaws.{lawful-new, lawful-no, lawful-yes, lawful-second, lawful-again}
 use Rattle.proposer_area.specs.HeldLaws.{Size, size-of}
 use Rattle.proposer.specs.Contract.{areaTests, outcomeOn, tickOn, areaAfter, Done}
-use Rattle.proposer.specs.Answerers.{room-for-one}
+use Rattle.proposer.specs.Answerers.{or-false, room-for-one}
+use Rattle.proposer.specs.ListLaws.{list-short}
 use Rattle.proposer.specs.PlacesFit.{yes-fits, no-fits, placeFits, places-higher, places-replaced, places-taken, ballots-low, ballots-kept, distinct-dropped, distinct-fresh, distinct-taken, places-in-time, distinct-in-time}
 
 -- ---- what a message can be, by the types of the code: numbers of 64 bits, addresses of 16, values of bytes
@@ -331,10 +332,6 @@ pub none-due : (t : Bool) (r : Refusal) (rest : Option Refusal) → pickFirst t 
 none-due true r rest e = let z : _≡_ {A = ℕ} 0 1 = cc in absurd (omega arith)
 none-due false r rest e = (refl, e)
 
-pub either : (t u : Bool) → (t || u) ≡ false → (t ≡ false) × (u ≡ false)
-either true u e = absurd (false≢true (sym e))
-either false u e = (refl, e)
-
 -- a refusal leaves the state
 unless-next : (s : Proposer) (n : ℕ) (t : Option Refusal) (o : Outcome) → Lendable s n → (t ≡ none → Next s (o .state) n) → Next s (unless t s o .state) n
 unless-next s n none o ok h = h refl
@@ -446,7 +443,7 @@ module _ (s : Proposer) (n : ℕ) (ok : Lendable s n) (from : Address) (from-fit
   sender-may p rest e =
       let first = none-due (listed (from .0) (p .acksFrom) || listed (from .0) (p .nacksFrom)) Refusal.Repeated _ e in
       let second = none-due (not (listed (from .0) (p .waitingFor))) Refusal.NotWaitedFor rest (first .1) in
-      let neither = either (listed (from .0) (p .acksFrom)) (listed (from .0) (p .nacksFrom)) (first .0) in
+      let neither = or-false (listed (from .0) (p .acksFrom)) (listed (from .0) (p .nacksFrom)) (first .0) in
       (record { no-yes = neither .0; no-no = neither .1; there = not-false _ (second .0) }, second .1)
 
   promise-work-next : (p : Pending) (lawful : Lawful p) (fit : Fit (s .counter) p) (b : Ballot) (v : Option Value) (res : Result) → b .0 < 2 ^ 64 → Short valueMost (bytesOf v) → optionFits v ≡ true → TypedResult res → firstDue (promiseTests s p from res) ≡ none → Next s (promiseWork s p from b v res .state) n
@@ -513,10 +510,6 @@ module _ (s : Proposer) (n : ℕ) (ok : Lendable s n) (from : Address) (at : ℕ
       next (ok .lawful .propose) at-fits) (ok .lawful .each))
       (places-taken (c + 1) p (s .places) (fit-is (c + 1) p fits) (places-higher c (c + 1) (s .places) up (fits-all .places)))
       (distinct-taken p (s .places) (fits-all .ballots) (ballots-low c (c + 1) (s .places) (fits-all .places) (omega arith))))
-
-  list-short : (l : List ℕ) → listFits l ≡ true → length l ≤ listMost
-  unfolding listFits
-  list-short l h = leb-true (length l) listMost (and-true (leb (length l) listMost) (noneZero l) h .0)
 
   accept-next : (l : List ℕ) → Entries l → listFits l ≡ true → Next s (withLists s l (s .proposeAcceptors)) n
   accept-next l typed fits =

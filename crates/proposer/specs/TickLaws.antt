@@ -1,7 +1,7 @@
 -- A tick: the loop that drops one late request after the other, lowest ballot first, leaves the rules' state and rows.
 -- Assumes nothing.
 use mathlib.Core.Path.{_≡_, refl, sym, ap, subst, _∙_}
-use mathlib.Core.Bool.{Bool, true, false, not, cond, _&&_}
+use mathlib.Core.Bool.{Bool, true, false, cond, _&&_}
 use mathlib.Core.List.{List, [], _∷_, _++_, append-nil, append-assoc}
 use mathlib.Core.Option.{Option, none, some}
 use Prim.Native.Nat.{ℕ, suc, _+_, _*_, _≤_, _<_}
@@ -9,17 +9,16 @@ use native.Mathlib.Omega.{arith}
 use native.Mathlib.Decide.{decLt}
 use borrow.Author.Tests.{ne-eqb}
 use lib.Dec.{eqb}
-use lib.ListN.{length, getD, set, length-append}
+use lib.ListN.{length, set, length-append}
 use lib.Seq.{sets, length-sets}
 use Rattle.leaf_fields.specs.Fields.{toLe}
 use Rattle.leaf_fields.specs.Laws.{length-toLe}
-use Rattle.messages.specs.declared.Address.{Address}
 use Rattle.messages.specs.declared.answer.Answer.{Answer}
 use Rattle.messages.specs.declared.answer.Refusal.{Refusal}
 use Rattle.messages.specs.Refusals.{test, firstDue}
 use Rattle.messages.specs.Answers.{Row, rowsAt, rowBytes, rowsBytes, answerOf, writtenIn}
 use Rattle.proposer_rules.specs.State.{Pending, Proposer}
-use Rattle.proposer_rules.specs.Rules.{Outcome, outcome, moved, allTimeouts, clockBack, late, dropLate, inTime, insert, lateOnes, rowsOf, tick}
+use Rattle.proposer_rules.specs.Rules.{moved, allTimeouts, clockBack, late, inTime, lateOnes, rowsOf, tick}
 use Rattle.proposer_place.specs.declared.front.Front.{Front}
 use Rattle.proposer_place.specs.Area.{headerBytes, placeImage, areaImage, readPlaces, readPending, readArea}
 use Rattle.proposer_place.specs.AreaLaws.{Lawful, LawfulPlace, LawfulState, read-written, read-pending}

@@ -1,14 +1,13 @@
 -- Refused works: nothing is sent, and the area stays the image that it was.
 -- Assumes nothing.
-use mathlib.Core.Path.{_≡_, refl, sym, ap, _∙_}
+use mathlib.Core.Path.{_≡_}
 use mathlib.Core.List.{List}
 use mathlib.Core.Option.{Option, none, some}
 use Prim.Native.Nat.{ℕ}
 use Rattle.messages.specs.declared.answer.Answer.{Answer}
 use Rattle.messages.specs.declared.answer.Refusal.{Refusal}
-use Rattle.messages.specs.Answers.{Told}
 use Rattle.proposer_rules.specs.State.{Proposer}
-use Rattle.proposer_rules.specs.Rules.{Outcome, outcome, unless}
+use Rattle.proposer_rules.specs.Rules.{Outcome, unless}
 use Rattle.proposer_place.specs.Area.{areaImage}
 use Rattle.proposer.specs.Works.{Worked}
 
