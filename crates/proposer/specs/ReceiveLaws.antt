@@ -18,9 +18,9 @@ use Rattle.proposer_rules.specs.State.{Proposer}
 use Rattle.proposer_rules.specs.Rules.{Outcome, unless, foreign, messageTests, work, receive, tick, start}
 use Rattle.proposer_place.specs.Area.{areaImage, readArea, sized, isImage}
 use Rattle.proposer_area.specs.Held.{Held}
-use Rattle.proposer.specs.Contract.{answerBytes, areaTests, outcomeOn, tickOn, startOn, areaAfter, Done, Started}
-use Rattle.proposer.specs.Works.{Worked}
-use Rattle.proposer.specs.WorksLaws.{refused-work, due-none}
+use Rattle.proposer.specs.Contract.{areaTests, outcomeOn, tickOn, startOn, areaAfter, Done, Started}
+use Rattle.proposer_works.specs.Works.{answerBytes, Worked}
+use Rattle.proposer_works.specs.WorksLaws.{refused-work, due-none}
 use Rattle.proposer.specs.Refused.{Keeps, message-keeps, tick-keeps}
 
 -- ---- refusals 1 and 2

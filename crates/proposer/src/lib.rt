@@ -1,27 +1,24 @@
 // The crate's proposer.rs over a lent area. Its rules stand in proposer_rules/specs/Rules.antt, what of them is promised in
-// specs/Contract.antt, the area's and the answer area's layout in docs/LAYOUT.md.
-mod acceptance;
+// specs/Contract.antt, the area's and the answer area's layout in docs/LAYOUT.md. The works of a message, and of a tick, are a crate each:
+// proposer_request, proposer_promise, proposer_acceptance and proposer_clock; those of the two list messages stand in lists.rt.
 mod lists;
-mod promise;
-mod request;
-mod send;
-mod timeouts;
 
 use messages::Address;
 use messages::Answer;
 use messages::Refusal;
 use messages::Rpc;
+pub use proposer_works::ENTRIES_AT;
+pub use proposer_works::KEY_AT;
+pub use proposer_works::ROW;
+pub use proposer_works::ROWS_AT;
 ghost use mathlib.Core.Path.{_≡_};
-ghost use mathlib.Core.Bool.{true, not};
-ghost use lib.Dec.{leb};
+ghost use mathlib.Core.Bool.{true};
 ghost use lib.ListN.{length};
 ghost use Rattle.messages.specs.Message.{messageOf};
 ghost use Rattle.messages.specs.Limits.{withinLimits};
-ghost use Rattle.proposer_rules.specs.Rules.{majorityOf};
 ghost use Rattle.proposer_rules.specs.Rules as Rules;
 ghost use Rattle.proposer_place.specs.Area.{readArea, mayBeLent};
 ghost use Rattle.proposer.specs.Contract.{
-  answerBytes,
   outcomeOn,
   tickOn,
   startOn,
@@ -29,23 +26,7 @@ ghost use Rattle.proposer.specs.Contract.{
   Started,
 };
 ghost use Rattle.proposer_area.specs.Held.{Held};
-ghost use Rattle.proposer.specs.Works.{Worked};
-
-// The answer area: the value, the key, the entries of a list, and a row for each place.
-pub const KEY_AT: usize = 256;
-
-pub const ENTRIES_AT: usize = 320;
-
-pub const ROWS_AT: usize = 350;
-
-pub const ROW: usize = 10;
-
-// Whether a majority of n entries is not reached by that many answers.
-fn short_of(answers: usize, n: usize) -> bool
-    ensures { λ r. ⌜ r ≡ not (leb (majorityOf n) answers) ⌝ }
-{
-    answers < proposer_change::majority(n)
-}
+ghost use Rattle.proposer_works.specs.Works.{answerBytes, Worked};
 
 // The start: counter 0, nothing pending, and one given list as both lists. Refusals are 1 and 4.
 pub fn start(area: &mut [u8], places: usize, timeout: u64, list: &[u16]) -> Answer
@@ -124,7 +105,7 @@ fn work(
             if !fits {
                 return Answer::Refused(Refusal::OverLimit);
             }
-            request::request(area, places, from, at, id, req, key, value, other, answer)
+            proposer_request::request(area, places, from, at, id, req, key, value, other, answer)
         }
         Rpc::ClientResponse(_, _) => Answer::Refused(Refusal::WrongKind),
         Rpc::SetAcceptAcceptors => {
@@ -151,7 +132,7 @@ fn work(
             if !fits {
                 return Answer::Refused(Refusal::OverLimit);
             }
-            promise::promise(
+            proposer_promise::promise(
                 area,
                 places,
                 from,
@@ -168,7 +149,7 @@ fn work(
             if !fits {
                 return Answer::Refused(Refusal::OverLimit);
             }
-            acceptance::acceptance(area, places, from, ballot, res, answer)
+            proposer_acceptance::acceptance(area, places, from, ballot, res, answer)
         }
     }
 }
@@ -186,5 +167,5 @@ pub fn tick(area: &mut [u8], places: usize, t: u64, answer: &mut [u8]) -> Answer
     if !proposer_area::is_image(area, places) {
         return Answer::Refused(Refusal::Damaged);
     }
-    timeouts::tick(area, places, t, answer)
+    proposer_clock::tick(area, places, t, answer)
 }

@@ -21,7 +21,7 @@ use Rattle.proposer_rules.specs.Rules.{outcome, foreign}
 use Rattle.proposer_rules.specs.Rules as Rules
 use Rattle.proposer_place.specs.Area.{areaImage, readArea}
 use Rattle.proposer_area.specs.Held.{Held}
-use Rattle.proposer.specs.Works.{Worked}
+use Rattle.proposer_works.specs.Works.{Worked}
 use Rattle.proposer.specs.ReceiveLaws as Laws
 use borrow.Author.Needs.{needs}
 use Rattle.proposer.proofs.work.Statement.{statement}

@@ -1,7 +1,5 @@
 -- `proposer::lists::set_propose` meets its contract: the area with another propose list is the image of the state with it.
 -- Assumes nothing.
-use mathlib.Core.Path.{_≡_}
-use mathlib.Core.Bool.{true}
 use mathlib.Core.List.{List}
 use Prim.Native.Nat.{ℕ, _+_, _≤_, _<_}
 use native.Mathlib.Omega.{arith}

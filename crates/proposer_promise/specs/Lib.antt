@@ -1,0 +1,2 @@
+pub mod PromiseLaws
+pub mod GrantLaws
