@@ -1,6 +1,5 @@
 pub mod AreaStart
 pub mod Contract
-pub mod ListLaws
 pub mod Refused
 pub mod ReceiveLaws
 pub mod PlacesFit

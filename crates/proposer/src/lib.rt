@@ -1,8 +1,6 @@
 // The crate's proposer.rs over a lent area. Its rules stand in proposer_rules/specs/Rules.antt, what of them is promised in
-// specs/Contract.antt, the area's and the answer area's layout in docs/LAYOUT.md. The works of a message, and of a tick, are a crate each:
-// proposer_request, proposer_promise, proposer_acceptance and proposer_clock; those of the two list messages stand in lists.rt.
-mod lists;
-
+// specs/Contract.antt, the area's and the answer area's layout in docs/LAYOUT.md. The works of each message, of the two that set a list
+// and of a tick are a crate each: proposer_request, proposer_promise, proposer_acceptance, proposer_lists and proposer_clock.
 use messages::Address;
 use messages::Answer;
 use messages::Refusal;
@@ -38,7 +36,7 @@ pub fn start(area: &mut [u8], places: usize, timeout: u64, list: &[u16]) -> Answ
     if !messages::list_fits(list) {
         return Answer::Refused(Refusal::OverLimit);
     }
-    lists::begin(area, places, timeout, list);
+    proposer_lists::begin(area, places, timeout, list);
     Answer::Nothing
 }
 
@@ -112,14 +110,14 @@ fn work(
             if !fits {
                 return Answer::Refused(Refusal::OverLimit);
             }
-            lists::set_accept(area, places, list);
+            proposer_lists::set_accept(area, places, list);
             Answer::Nothing
         }
         Rpc::SetProposeAcceptors => {
             if !fits {
                 return Answer::Refused(Refusal::OverLimit);
             }
-            lists::set_propose(area, places, list);
+            proposer_lists::set_propose(area, places, list);
             Answer::Nothing
         }
         Rpc::ProposeReq(_) => Answer::Refused(Refusal::WrongKind),

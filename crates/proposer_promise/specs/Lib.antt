@@ -1,2 +1,1 @@
-pub mod PromiseLaws
 pub mod GrantLaws

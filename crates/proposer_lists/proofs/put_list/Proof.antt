@@ -1,4 +1,4 @@
--- `proposer::lists::put_list` meets its contract: the lent part, written, is the row in the header.
+-- `proposer_lists::put_list` meets its contract: the lent part, written, is the row in the header.
 -- Assumes nothing.
 use mathlib.Core.Path.{_≡_, sym, ap, _∙_}
 use mathlib.Core.List.{List, _++_, append-assoc}
@@ -12,8 +12,8 @@ use Rattle.messages.specs.Limits.{listMost}
 use Rattle.proposer_place.specs.Area.{listBytes, listRow}
 use Rattle.proposer_place.specs.AreaRows.{length-list}
 use borrow.Author.Needs.{needs}
-use Rattle.proposer.proofs.lists.put_list.Statement.{statement}
-use Rattle.proposer.proofs.lists.put_list.Tie as tie
+use Rattle.proposer_lists.proofs.put_list.Statement.{statement}
+use Rattle.proposer_lists.proofs.put_list.Tie as tie
 
 lent-bytes : (a : List ℕ) (row : ℕ) → row + listBytes ≤ length a → length (take (row + 30 - row) (drop row a)) ≡ listBytes
 lent-bytes a row room =

@@ -1,4 +1,4 @@
--- `proposer_promise::to_accept` meets its contract: what it lends and stores has room, and the place and the accept requests are the rules'.
+-- `proposer_rounds::to_accept` meets its contract: what it lends and stores has room, and the place and the accept requests are the rules'.
 -- Assumes nothing.
 use mathlib.Core.Path.{refl}
 use Prim.Native.Nat.{_+_, _-_, _*_}
@@ -7,12 +7,12 @@ use Rattle.messages.specs.Message.{given}
 use Rattle.messages.specs.Answers.{bytesOf}
 use Rattle.proposer_rules.specs.Rules.{applied, requestIn}
 use Rattle.proposer_works.specs.Lent.{applied-fits}
-use Rattle.proposer_promise.specs.PromiseLaws.{second-begun}
+use Rattle.proposer_rounds.specs.RoundLaws.{second-begun}
 use Rattle.proposer_works.specs.Room.{held-bytes, held-few, held-room, held-used, pends-within, accept-few, accept-lent, key-short, bounds-of, Bounds, entries-end, entries-sent}
 use borrow.Author.Needs.{needs}
 use native.Mathlib.Omega.{arith}
-use Rattle.proposer_promise.proofs.to_accept.Statement.{statement}
-use Rattle.proposer_promise.proofs.to_accept.Tie as tie
+use Rattle.proposer_rounds.proofs.to_accept.Statement.{statement}
+use Rattle.proposer_rounds.proofs.to_accept.Tie as tie
 
 -- what bounds the parts that are lent
 bounds : (c : tie.After-take-place) → let start = c .before .before .before .before .before .before in Bounds (start .args .area .now) (start .args .i) (c .take-place .result) (c .before .before .take-header .result)

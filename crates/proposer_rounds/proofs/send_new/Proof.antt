@@ -1,4 +1,4 @@
--- `proposer_promise::send_new` meets its contract: the new value is sent, and its length told.
+-- `proposer_rounds::send_new` meets its contract: the new value is sent, and its length told.
 -- Assumes nothing.
 use mathlib.Core.Path.{_≡_, ap, _∙_}
 use mathlib.Core.List.{List}
@@ -6,8 +6,8 @@ use Prim.Native.Nat.{ℕ, _≤_}
 use lib.ListN.{length}
 use Rattle.proposer_works.specs.Sent.{sentIn}
 use borrow.Author.Needs.{needs}
-use Rattle.proposer_promise.proofs.send_new.Statement.{statement}
-use Rattle.proposer_promise.proofs.send_new.Tie as tie
+use Rattle.proposer_rounds.proofs.send_new.Statement.{statement}
+use Rattle.proposer_rounds.proofs.send_new.Tie as tie
 
 fits : (v x : List ℕ) → v ≡ x → length x ≤ 256 → length v ≤ 256
 fits v x e h = rw e h

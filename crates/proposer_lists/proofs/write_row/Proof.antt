@@ -1,4 +1,4 @@
--- `proposer::lists::write_row` meets its contract. The loop's invariant: what is left to store gives the final row.
+-- `proposer_lists::write_row` meets its contract. The loop's invariant: what is left to store gives the final row.
 -- Assumes nothing.
 use mathlib.Core.Path.{_≡_, ap, _∙_}
 use mathlib.Core.List.{List}
@@ -15,8 +15,8 @@ use Rattle.proposer_place.specs.Area.{listBytes, listRow}
 use Rattle.proposer_place.specs.AreaRows.{length-entries}
 use Rattle.proposer_place.specs.Rows.{sets-join, sets-zeros}
 use borrow.Author.Needs.{needs}
-use Rattle.proposer.proofs.lists.write_row.Statement.{statement}
-use Rattle.proposer.proofs.lists.write_row.Tie as tie
+use Rattle.proposer_lists.proofs.write_row.Statement.{statement}
+use Rattle.proposer_lists.proofs.write_row.Tie as tie
 
 abbrev Inv-loop : tie.InvT-loop
 Inv-loop d₀ list i₀ d i = (i ≤ length list) × (length d ≡ listBytes) × (sets d (2 * i) (entryBytes (drop i list)) ≡ listRow list)

@@ -1,4 +1,4 @@
--- `proposer_promise::propose_again` meets its contract: what it lends and stores has room, and the place, the counter and the proposals are the rules'.
+-- `proposer_rounds::propose_again` meets its contract: what it lends and stores has room, and the place, the counter and the proposals are the rules'.
 -- Assumes nothing.
 use mathlib.Core.Path.{_≡_}
 use mathlib.Core.List.{List, []}
@@ -10,12 +10,12 @@ use Rattle.proposer_area.specs.Places.{headerIn}
 use Rattle.proposer_area.specs.Held.{Held}
 use Rattle.proposer_works.specs.Works.{answerBytes}
 use Rattle.proposer_works.specs.Sent.{sentIn}
-use Rattle.proposer_promise.specs.PromiseLaws.{proposed-again}
+use Rattle.proposer_rounds.specs.RoundLaws.{proposed-again}
 use Rattle.proposer_works.specs.Room.{held-bytes, held-few, held-header, held-room, held-used, pends-within, propose-few, propose-lent, key-short, entries-end, entries-sent}
 use borrow.Author.Needs.{needs}
 use native.Mathlib.Omega.{arith}
-use Rattle.proposer_promise.proofs.propose_again.Statement.{statement}
-use Rattle.proposer_promise.proofs.propose_again.Tie as tie
+use Rattle.proposer_rounds.proofs.propose_again.Statement.{statement}
+use Rattle.proposer_rounds.proofs.propose_again.Tie as tie
 
 -- the entries that were just sent
 list-end : (a w w₁ : List ℕ) (v : Value) (k : Key) (l : List ℕ) (n : ℕ) (h : Header) → Held a n → h ≡ headerIn a → length w ≡ answerBytes n → w₁ ≡ sentIn w v k l → 320 + 2 * h .propose ≤ length w₁

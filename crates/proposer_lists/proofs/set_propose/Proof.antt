@@ -1,4 +1,4 @@
--- `proposer::lists::set_propose` meets its contract: the area with another propose list is the image of the state with it.
+-- `proposer_lists::set_propose` meets its contract: the area with another propose list is the image of the state with it.
 -- Assumes nothing.
 use mathlib.Core.List.{List}
 use Prim.Native.Nat.{ℕ, _+_, _≤_, _<_}
@@ -7,10 +7,10 @@ use lib.ListN.{length}
 use Rattle.proposer_place.specs.Area.{proposeListAt, proposeCountAt, listBytes}
 use Rattle.proposer_area.specs.Held.{Held}
 use Rattle.proposer_area.specs.HeldLaws.{size-of}
-use Rattle.proposer.specs.ListLaws.{propose-set, list-short}
+use Rattle.proposer_lists.specs.ListLaws.{propose-set, list-short}
 use borrow.Author.Needs.{needs}
-use Rattle.proposer.proofs.lists.set_propose.Statement.{statement}
-use Rattle.proposer.proofs.lists.set_propose.Tie as tie
+use Rattle.proposer_lists.proofs.set_propose.Statement.{statement}
+use Rattle.proposer_lists.proofs.set_propose.Tie as tie
 
 row-room : (a : List ℕ) (n : ℕ) → Held a n → proposeListAt + listBytes ≤ length a
 row-room a n held = omega (arith, size-of a n (held .sized) .bytes)

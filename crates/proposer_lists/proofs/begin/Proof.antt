@@ -1,4 +1,4 @@
--- `proposer::lists::begin` meets its contract: of zeros, with the timeout and both lists stored, the start's image is made.
+-- `proposer_lists::begin` meets its contract: of zeros, with the timeout and both lists stored, the start's image is made.
 -- Assumes nothing.
 use mathlib.Core.Path.{_≡_, ap}
 use mathlib.Core.Bool.{true}
@@ -10,10 +10,10 @@ use lib.Seq.{sets, length-sets}
 use Rattle.leaf_fields.specs.Fields.{toLe}
 use Rattle.proposer_place.specs.Area.{timeoutAt, acceptCountAt, proposeCountAt, acceptListAt, proposeListAt, headerBytes, listBytes, listRow, sized}
 use Rattle.proposer_area.specs.HeldLaws.{size-of}
-use Rattle.proposer.specs.ListLaws.{list-short, started}
+use Rattle.proposer_lists.specs.ListLaws.{list-short, started}
 use borrow.Author.Needs.{needs}
-use Rattle.proposer.proofs.lists.begin.Statement.{statement}
-use Rattle.proposer.proofs.lists.begin.Tie as tie
+use Rattle.proposer_lists.proofs.begin.Statement.{statement}
+use Rattle.proposer_lists.proofs.begin.Tie as tie
 
 timeout-room : (a a₀ : List ℕ) (n : ℕ) → sized a n ≡ true → a₀ ≡ replicate (length a) 0 → timeoutAt + 8 ≤ length a₀
 timeout-room a a₀ n h e = omega (arith, size-of a n h .bytes, ap length e, length-replicate {A = ℕ} (length a) 0)
