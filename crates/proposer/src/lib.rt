@@ -10,10 +10,13 @@ pub use proposer_works::KEY_AT;
 pub use proposer_works::ROW;
 pub use proposer_works::ROWS_AT;
 ghost use mathlib.Core.Path.{_≡_};
-ghost use mathlib.Core.Bool.{true};
+ghost use mathlib.Core.Bool.{true, cond};
+ghost use mathlib.Core.List.{List};
+ghost use Prim.Native.Nat.{ℕ};
 ghost use lib.ListN.{length};
 ghost use Rattle.messages.specs.Message.{messageOf};
 ghost use Rattle.messages.specs.Limits.{withinLimits};
+ghost use Rattle.proposer_rules.specs.Rules.{foreign};
 ghost use Rattle.proposer_rules.specs.Rules as Rules;
 ghost use Rattle.proposer_place.specs.Area.{readArea, mayBeLent};
 ghost use Rattle.proposer.specs.Contract.{
@@ -81,6 +84,27 @@ pub fn receive(
     )
 }
 
+// The refusal of a message that is over the limits: a wrong kind ranks before them.
+fn over_limit(rpc: Rpc) -> Refusal
+    ensures { λ r. ⌜ ((k v u l : List ℕ) → r ≡ cond (foreign (messageOf rpc k v u l)) Refusal.WrongKind Refusal.OverLimit) ⌝ }
+{
+    match rpc {
+        Rpc::ClientRequest(_, _) => Refusal::OverLimit,
+        Rpc::ClientResponse(_, _) => Refusal::WrongKind,
+        Rpc::SetAcceptAcceptors => Refusal::OverLimit,
+        Rpc::SetProposeAcceptors => Refusal::OverLimit,
+        Rpc::ProposeReq(_) => Refusal::WrongKind,
+        Rpc::ProposeRes {
+            req_ballot: _,
+            last_accepted_ballot: _,
+            last_accepted_value: _,
+            res: _,
+        } => Refusal::OverLimit,
+        Rpc::AcceptReq(_, _) => Refusal::WrongKind,
+        Rpc::AcceptRes(_, _) => Refusal::OverLimit,
+    }
+}
+
 // The same on an area that is an image. `fits`: whether the message is within the limits.
 fn work(
     area: &mut [u8],
@@ -98,25 +122,19 @@ fn work(
     requires { ⌜ (Held (now area) places) × (length (now answer) ≡ answerBytes places) × (mayBeLent (readArea (now area) places) ≡ true) × (fits ≡ withinLimits from (messageOf rpc (now key) (now value) (now other) (now list))) ⌝ }
     ensures { λ r. ⌜ Worked (now (answer .entry)) (Rules.receive (readArea (now (area .entry)) places) from at (messageOf rpc (now (key .entry)) (now (value .entry)) (now (other .entry)) (now (list .entry)))) r (now (area .exit)) (now (answer .exit)) ⌝ }
 {
+    if !fits {
+        return Answer::Refused(over_limit(rpc));
+    }
     match rpc {
         Rpc::ClientRequest(id, req) => {
-            if !fits {
-                return Answer::Refused(Refusal::OverLimit);
-            }
             proposer_request::request(area, places, from, at, id, req, key, value, other, answer)
         }
         Rpc::ClientResponse(_, _) => Answer::Refused(Refusal::WrongKind),
         Rpc::SetAcceptAcceptors => {
-            if !fits {
-                return Answer::Refused(Refusal::OverLimit);
-            }
             proposer_lists::set_accept(area, places, list);
             Answer::Nothing
         }
         Rpc::SetProposeAcceptors => {
-            if !fits {
-                return Answer::Refused(Refusal::OverLimit);
-            }
             proposer_lists::set_propose(area, places, list);
             Answer::Nothing
         }
@@ -126,27 +144,19 @@ fn work(
             last_accepted_ballot,
             last_accepted_value,
             res,
-        } => {
-            if !fits {
-                return Answer::Refused(Refusal::OverLimit);
-            }
-            proposer_promise::promise(
-                area,
-                places,
-                from,
-                req_ballot,
-                last_accepted_ballot,
-                last_accepted_value,
-                value,
-                res,
-                answer,
-            )
-        }
+        } => proposer_promise::promise(
+            area,
+            places,
+            from,
+            req_ballot,
+            last_accepted_ballot,
+            last_accepted_value,
+            value,
+            res,
+            answer,
+        ),
         Rpc::AcceptReq(_, _) => Answer::Refused(Refusal::WrongKind),
         Rpc::AcceptRes(ballot, res) => {
-            if !fits {
-                return Answer::Refused(Refusal::OverLimit);
-            }
             proposer_acceptance::acceptance(area, places, from, ballot, res, answer)
         }
     }
