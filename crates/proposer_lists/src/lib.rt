@@ -1,4 +1,4 @@
-// The two lists of the header.
+// `SetAcceptAcceptors` and `SetProposeAcceptors`: the two lists of the header; and the area of a start, which has one list as both.
 use proposer_area::ACCEPT_LIST;
 use proposer_area::PROPOSE_LIST;
 ghost use mathlib.Core.Path.{_≡_};

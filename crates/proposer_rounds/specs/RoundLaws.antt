@@ -1,4 +1,4 @@
--- The works of the first phase that send: the second phase begins, and the request is proposed anew.
+-- The rounds of a request that are sent after an answer: the second phase begins, and the request is proposed anew.
 -- Assumes nothing.
 use mathlib.Core.Path.{_≡_, sym, ap, _∙_}
 use mathlib.Core.Bool.{cond}
@@ -82,8 +82,8 @@ module _ (a : List ℕ) (n i : ℕ) (f : Front) (held : Held a n) (pends : Pends
       let asking : Message = Message.AcceptReq (p .ballot) (keyOf (p .req)) v in
       let at-ballot : ballot ≡ p .ballot = eballot ∙ ap (λ (g : Front). g .ballot) ef in
       let sent : cond (eqb (h .accept) 0) Answer.Nothing (Answer.Broadcast (Rpc.AcceptReq ballot new) (h .accept) (f .«key_len») len) ≡ broadcastOf (s .acceptAcceptors) asking =
-      rw (enew, elen, here, at-ballot, accept-here, (Lent.key-length a n i f held pends ef)) in
-      let written : w₁ ≡ sentIn w (bytesOf v) (keyOf (p .req)) acceptList = ew ∙ rw (here, (Lent.key-is a n i f held pends ef)) in
+      rw (enew, elen, here, at-ballot, accept-here, Lent.key-length a n i f held pends ef) in
+      let written : w₁ ≡ sentIn w (bytesOf v) (keyOf (p .req)) acceptList = ew ∙ rw (here, Lent.key-is a n i f held pends ef) in
       let waited : entries (take (320 + 2 * h .accept - 320) (drop 320 w₁)) 0 (h .accept) ≡ s .acceptAcceptors =
       ap (λ (u : List ℕ). entries (take (320 + 2 * h .accept - 320) (drop 320 u)) 0 (h .accept)) written ∙ accept-waited (bytesOf v) (keyOf (p .req)) in
       record {
@@ -122,7 +122,7 @@ module _ (a : List ℕ) (n i : ℕ) (f : Front) (held : Held a n) (pends : Pends
   proposed-again counter w₁ a₁ a₂ r most ew ea₁ ea₂ er =
       let asking : Message = Message.ProposeReq (nextBallot counter) (keyOf (p .req)) in
       let sent : cond (eqb (h .propose) 0) Answer.Nothing (Answer.Broadcast (Rpc.ProposeReq (record { 0 = counter + 1 })) (h .propose) (f .«key_len») 0) ≡ broadcastOf (s .proposeAcceptors) asking =
-      rw (propose-here, (Lent.key-length a n i f held pends ef)) in
+      rw (propose-here, Lent.key-length a n i f held pends ef) in
       let written : w₁ ≡ sentIn w [] (keyOf (p .req)) proposeList = ew ∙ rw (Lent.key-is a n i f held pends ef) in
       let waited : entries (take (320 + 2 * h .propose - 320) (drop 320 w₁)) 0 (h .propose) ≡ s .proposeAcceptors =
       ap (λ (u : List ℕ). entries (take (320 + 2 * h .propose - 320) (drop 320 u)) 0 (h .propose)) written ∙ propose-waited (keyOf (p .req)) in
