@@ -3,7 +3,7 @@
 use mathlib.Core.Path.{_≡_}
 use mathlib.Core.Bool.{not, _&&_}
 use mathlib.Core.List.{List, [], _∷_}
-use Prim.Native.Nat.{ℕ, _+_, _*_}
+use Prim.Native.Nat.{ℕ}
 use lib.Dec.{eqb}
 use lib.ListN.{length}
 use Rattle.messages.specs.declared.Address.{Address}
@@ -12,14 +12,11 @@ use Rattle.messages.specs.declared.answer.Refusal.{Refusal}
 use Rattle.messages.specs.Message.{Message}
 use Rattle.messages.specs.Limits.{listFits}
 use Rattle.messages.specs.Refusals.{Test, test, firstDue}
-use Rattle.messages.specs.Answers.{rowsAt, rowBytes, Told, nothing, one, each, timeouts, refused, answerOf, writtenIn}
+use Rattle.messages.specs.Answers.{Told, nothing, one, each, timeouts, refused, answerOf, writtenIn}
 use Rattle.proposer_rules.specs.State.{Proposer}
 use Rattle.proposer_rules.specs.Rules.{Outcome, outcome, unless, receive, tick, start}
 use Rattle.proposer_place.specs.Area.{areaImage, readArea, sized, isImage}
-
--- the answer area holds a value, a key, a list and a row for each place
-abbrev pub answerBytes : ℕ → ℕ
-answerBytes n = rowsAt + rowBytes * n
+use Rattle.proposer_works.specs.Works.{answerBytes}
 
 -- ---- the outcome of a call on a lent area of n places, with a lent answer area
 

@@ -1,7 +1,7 @@
 -- The public operations: refusals 1 and 2 of their lent areas, and the works on an area that is an image.
 -- Assumes nothing.
 use mathlib.Core.Path.{_≡_, refl, sym, ap, _∙_}
-use mathlib.Core.Bool.{Bool, true, false}
+use mathlib.Core.Bool.{Bool, true, false, cond}
 use mathlib.Core.List.{List}
 use mathlib.Core.Option.{Option, none, some}
 use Prim.Native.Nat.{ℕ}
@@ -18,9 +18,9 @@ use Rattle.proposer_rules.specs.State.{Proposer}
 use Rattle.proposer_rules.specs.Rules.{Outcome, unless, foreign, messageTests, work, receive, tick, start}
 use Rattle.proposer_place.specs.Area.{areaImage, readArea, sized, isImage}
 use Rattle.proposer_area.specs.Held.{Held}
-use Rattle.proposer.specs.Contract.{answerBytes, areaTests, outcomeOn, tickOn, startOn, areaAfter, Done, Started}
-use Rattle.proposer.specs.Works.{Worked}
-use Rattle.proposer.specs.WorksLaws.{refused-work, due-none}
+use Rattle.proposer.specs.Contract.{areaTests, outcomeOn, tickOn, startOn, areaAfter, Done, Started}
+use Rattle.proposer_works.specs.Works.{answerBytes, Worked}
+use Rattle.proposer_works.specs.WorksLaws.{refused-work, due-none}
 use Rattle.proposer.specs.Refused.{Keeps, message-keeps, tick-keeps}
 
 -- ---- refusals 1 and 2
@@ -89,6 +89,14 @@ module _ (a w : List ℕ) (n : ℕ) (from : Address) (at : ℕ) (m : Message) (h
   pub over-limit : (fits : Bool) → foreign m ≡ false → fits ≡ withinLimits from m → fits ≡ false → Worked w (receive (readArea a n) from at m) (Answer.Refused Refusal.OverLimit) a w
   unfolding receive
   over-limit fits own ef over = refused-work a w (readArea a n) (firstDue (messageTests from m)) (work (readArea a n) from at m) Refusal.OverLimit (held .image) (rw (own, sym ef ∙ over))
+
+  -- a wrong kind ranks before the limits
+  pub beyond-limits : (fits : Bool) (r : Refusal) → r ≡ cond (foreign m) Refusal.WrongKind Refusal.OverLimit → fits ≡ withinLimits from m → fits ≡ false → Worked w (receive (readArea a n) from at m) (Answer.Refused r) a w
+  beyond-limits fits r er ef over = rw er (by (foreign m) refl)
+    where
+      by : (z : Bool) → foreign m ≡ z → Worked w (receive (readArea a n) from at m) (Answer.Refused (cond z Refusal.WrongKind Refusal.OverLimit)) a w
+      by true e = wrong-kind e
+      by false e = over-limit fits e ef over
 
   pub taken-in : (fits : Bool) (r : Answer) (a′ w′ : List ℕ) → foreign m ≡ false → fits ≡ withinLimits from m → fits ≡ true → Worked w (work (readArea a n) from at m) r a′ w′ → Worked w (receive (readArea a n) from at m) r a′ w′
   unfolding receive

@@ -13,9 +13,9 @@ use Rattle.messages.specs.declared.Address.{Address}
 use Rattle.messages.specs.declared.Ballot.{Ballot}
 use Rattle.messages.specs.Message.{Key, Value, Failure, Reply, Message}
 use Rattle.messages.specs.Limits.{keyMost, valueMost}
-use Rattle.messages.specs.Answers.{Row, nothing, one, each, timeouts, keyAt, entriesAt, rowsAt, rowBytes, entries, rows, said, bytesOf, replyValue, answerOf, entryBytes, rowsBytes, writtenIn}
+use Rattle.messages.specs.Answers.{Row, one, keyAt, entriesAt, rowsAt, rowBytes, entries, rows, said, bytesOf, replyValue, answerOf, entryBytes, rowsBytes, writtenIn}
 use Rattle.proposer_rules.specs.Rules.{toEach}
-use Rattle.proposer.specs.NewValue.{given-back}
+use Rattle.proposer_works.specs.NewValue.{given-back}
 use Rattle.proposer_place.specs.AreaRows.{row-there, row-behind, length-entries, entries-there}
 use Rattle.proposer_place.specs.AreaLaws.{ShortList}
 

@@ -29,11 +29,12 @@ use Rattle.proposer_area.specs.PlacesLaws.{length-late}
 use Rattle.proposer_place.specs.AreaLaws.{Short, Lawful, LawfulPlaces}
 use Rattle.proposer_place.specs.AreaRead.{short-request}
 use Rattle.proposer_place.specs.PlaceLaws.{lawful-yes}
-use Rattle.proposer.specs.Contract.{answerBytes, areaTests, outcomeOn, tickOn, Done}
-use Rattle.proposer.specs.NewValue.{applied-short}
-use Rattle.proposer.specs.GrantLaws.{promised-lawful}
+use Rattle.proposer.specs.Contract.{areaTests, outcomeOn, tickOn, Done}
+use Rattle.proposer_works.specs.Works.{answerBytes}
+use Rattle.proposer_works.specs.NewValue.{applied-short}
+use Rattle.proposer_promise.specs.GrantLaws.{promised-lawful}
 use Rattle.proposer.specs.Said.{drop-stored, said-one, said-proposals, said-accepts, RowsFit, rows-there}
-use Rattle.proposer.specs.TickLaws.{length-rows, length-rows-of}
+use Rattle.proposer_clock.specs.TickLaws.{length-rows, length-rows-of}
 use Rattle.proposer.specs.Stays.{TypedMessage, Lendable, Fit, none-due, sender-may, pending-holds, room, within, lendable-read}
 
 -- the enum and the area say the answer

@@ -30,8 +30,8 @@ use Rattle.proposer_place.specs.AreaRead.{short-request, lawful-read, image-len
 use Rattle.proposer_place.specs.PlaceLaws.{lawful-new, lawful-no, lawful-yes, lawful-second, lawful-again}
 use Rattle.proposer_area.specs.HeldLaws.{Size, size-of}
 use Rattle.proposer.specs.Contract.{areaTests, outcomeOn, tickOn, areaAfter, Done}
-use Rattle.proposer.specs.Answerers.{or-false, room-for-one}
-use Rattle.proposer.specs.ListLaws.{list-short}
+use Rattle.proposer_works.specs.Answerers.{or-false, room-for-one}
+use Rattle.proposer_lists.specs.ListLaws.{list-short}
 use Rattle.proposer.specs.PlacesFit.{yes-fits, no-fits, placeFits, places-higher, places-replaced, places-taken, ballots-low, ballots-kept, distinct-dropped, distinct-fresh, distinct-taken, places-in-time, distinct-in-time}
 
 -- ---- what a message can be, by the types of the code: numbers of 64 bits, addresses of 16, values of bytes

@@ -1,27 +1,25 @@
 // The crate's proposer.rs over a lent area. Its rules stand in proposer_rules/specs/Rules.antt, what of them is promised in
-// specs/Contract.antt, the area's and the answer area's layout in docs/LAYOUT.md.
-mod acceptance;
-mod lists;
-mod promise;
-mod request;
-mod send;
-mod timeouts;
-
+// specs/Contract.antt, the area's and the answer area's layout in docs/LAYOUT.md. The works of each message, of the two that set a list
+// and of a tick are a crate each: proposer_request, proposer_promise, proposer_acceptance, proposer_lists and proposer_clock.
 use messages::Address;
 use messages::Answer;
 use messages::Refusal;
 use messages::Rpc;
+pub use proposer_works::ENTRIES_AT;
+pub use proposer_works::KEY_AT;
+pub use proposer_works::ROW;
+pub use proposer_works::ROWS_AT;
 ghost use mathlib.Core.Path.{_≡_};
-ghost use mathlib.Core.Bool.{true, not};
-ghost use lib.Dec.{leb};
+ghost use mathlib.Core.Bool.{true, cond};
+ghost use mathlib.Core.List.{List};
+ghost use Prim.Native.Nat.{ℕ};
 ghost use lib.ListN.{length};
 ghost use Rattle.messages.specs.Message.{messageOf};
 ghost use Rattle.messages.specs.Limits.{withinLimits};
-ghost use Rattle.proposer_rules.specs.Rules.{majorityOf};
+ghost use Rattle.proposer_rules.specs.Rules.{foreign};
 ghost use Rattle.proposer_rules.specs.Rules as Rules;
 ghost use Rattle.proposer_place.specs.Area.{readArea, mayBeLent};
 ghost use Rattle.proposer.specs.Contract.{
-  answerBytes,
   outcomeOn,
   tickOn,
   startOn,
@@ -29,23 +27,7 @@ ghost use Rattle.proposer.specs.Contract.{
   Started,
 };
 ghost use Rattle.proposer_area.specs.Held.{Held};
-ghost use Rattle.proposer.specs.Works.{Worked};
-
-// The answer area: the value, the key, the entries of a list, and a row for each place.
-pub const KEY_AT: usize = 256;
-
-pub const ENTRIES_AT: usize = 320;
-
-pub const ROWS_AT: usize = 350;
-
-pub const ROW: usize = 10;
-
-// Whether a majority of n entries is not reached by that many answers.
-fn short_of(answers: usize, n: usize) -> bool
-    ensures { λ r. ⌜ r ≡ not (leb (majorityOf n) answers) ⌝ }
-{
-    answers < proposer_change::majority(n)
-}
+ghost use Rattle.proposer_works.specs.Works.{answerBytes, Worked};
 
 // The start: counter 0, nothing pending, and one given list as both lists. Refusals are 1 and 4.
 pub fn start(area: &mut [u8], places: usize, timeout: u64, list: &[u16]) -> Answer
@@ -57,7 +39,7 @@ pub fn start(area: &mut [u8], places: usize, timeout: u64, list: &[u16]) -> Answ
     if !messages::list_fits(list) {
         return Answer::Refused(Refusal::OverLimit);
     }
-    lists::begin(area, places, timeout, list);
+    proposer_lists::begin(area, places, timeout, list);
     Answer::Nothing
 }
 
@@ -102,6 +84,27 @@ pub fn receive(
     )
 }
 
+// The refusal of a message that is over the limits: a wrong kind ranks before them.
+fn over_limit(rpc: Rpc) -> Refusal
+    ensures { λ r. ⌜ ((k v u l : List ℕ) → r ≡ cond (foreign (messageOf rpc k v u l)) Refusal.WrongKind Refusal.OverLimit) ⌝ }
+{
+    match rpc {
+        Rpc::ClientRequest(_, _) => Refusal::OverLimit,
+        Rpc::ClientResponse(_, _) => Refusal::WrongKind,
+        Rpc::SetAcceptAcceptors => Refusal::OverLimit,
+        Rpc::SetProposeAcceptors => Refusal::OverLimit,
+        Rpc::ProposeReq(_) => Refusal::WrongKind,
+        Rpc::ProposeRes {
+            req_ballot: _,
+            last_accepted_ballot: _,
+            last_accepted_value: _,
+            res: _,
+        } => Refusal::OverLimit,
+        Rpc::AcceptReq(_, _) => Refusal::WrongKind,
+        Rpc::AcceptRes(_, _) => Refusal::OverLimit,
+    }
+}
+
 // The same on an area that is an image. `fits`: whether the message is within the limits.
 fn work(
     area: &mut [u8],
@@ -119,26 +122,20 @@ fn work(
     requires { ⌜ (Held (now area) places) × (length (now answer) ≡ answerBytes places) × (mayBeLent (readArea (now area) places) ≡ true) × (fits ≡ withinLimits from (messageOf rpc (now key) (now value) (now other) (now list))) ⌝ }
     ensures { λ r. ⌜ Worked (now (answer .entry)) (Rules.receive (readArea (now (area .entry)) places) from at (messageOf rpc (now (key .entry)) (now (value .entry)) (now (other .entry)) (now (list .entry)))) r (now (area .exit)) (now (answer .exit)) ⌝ }
 {
+    if !fits {
+        return Answer::Refused(over_limit(rpc));
+    }
     match rpc {
         Rpc::ClientRequest(id, req) => {
-            if !fits {
-                return Answer::Refused(Refusal::OverLimit);
-            }
-            request::request(area, places, from, at, id, req, key, value, other, answer)
+            proposer_request::request(area, places, from, at, id, req, key, value, other, answer)
         }
         Rpc::ClientResponse(_, _) => Answer::Refused(Refusal::WrongKind),
         Rpc::SetAcceptAcceptors => {
-            if !fits {
-                return Answer::Refused(Refusal::OverLimit);
-            }
-            lists::set_accept(area, places, list);
+            proposer_lists::set_accept(area, places, list);
             Answer::Nothing
         }
         Rpc::SetProposeAcceptors => {
-            if !fits {
-                return Answer::Refused(Refusal::OverLimit);
-            }
-            lists::set_propose(area, places, list);
+            proposer_lists::set_propose(area, places, list);
             Answer::Nothing
         }
         Rpc::ProposeReq(_) => Answer::Refused(Refusal::WrongKind),
@@ -147,28 +144,20 @@ fn work(
             last_accepted_ballot,
             last_accepted_value,
             res,
-        } => {
-            if !fits {
-                return Answer::Refused(Refusal::OverLimit);
-            }
-            promise::promise(
-                area,
-                places,
-                from,
-                req_ballot,
-                last_accepted_ballot,
-                last_accepted_value,
-                value,
-                res,
-                answer,
-            )
-        }
+        } => proposer_promise::promise(
+            area,
+            places,
+            from,
+            req_ballot,
+            last_accepted_ballot,
+            last_accepted_value,
+            value,
+            res,
+            answer,
+        ),
         Rpc::AcceptReq(_, _) => Answer::Refused(Refusal::WrongKind),
         Rpc::AcceptRes(ballot, res) => {
-            if !fits {
-                return Answer::Refused(Refusal::OverLimit);
-            }
-            acceptance::acceptance(area, places, from, ballot, res, answer)
+            proposer_acceptance::acceptance(area, places, from, ballot, res, answer)
         }
     }
 }
@@ -186,5 +175,5 @@ pub fn tick(area: &mut [u8], places: usize, t: u64, answer: &mut [u8]) -> Answer
     if !proposer_area::is_image(area, places) {
         return Answer::Refused(Refusal::Damaged);
     }
-    timeouts::tick(area, places, t, answer)
+    proposer_clock::tick(area, places, t, answer)
 }

@@ -18,8 +18,8 @@ use Rattle.proposer_place.specs.Area.{readArea, sized, mayBeLent, isImage}
 use Rattle.proposer_place.specs.AreaRead.{image-lent}
 use Rattle.proposer_area.specs.Held.{Held}
 use Rattle.proposer_area.specs.HeldLaws.{size-of, image-held}
-use Rattle.proposer.specs.Contract.{answerBytes, outcomeOn, Done}
-use Rattle.proposer.specs.Works.{Worked}
+use Rattle.proposer.specs.Contract.{outcomeOn, Done}
+use Rattle.proposer_works.specs.Works.{answerBytes, Worked}
 use Rattle.proposer.specs.ReceiveLaws.{wrong-size, wrong-answer, no-image, received}
 use borrow.Author.Needs.{needs}
 use Rattle.proposer.proofs.receive.Statement.{statement}

@@ -15,8 +15,8 @@ use Rattle.proposer_rules.specs.Rules as Rules
 use Rattle.proposer_place.specs.Area.{readArea, sized, isImage}
 use Rattle.proposer_area.specs.Held.{Held}
 use Rattle.proposer_area.specs.HeldLaws.{size-of, image-held}
-use Rattle.proposer.specs.Contract.{answerBytes, tickOn, Done}
-use Rattle.proposer.specs.Works.{Worked}
+use Rattle.proposer.specs.Contract.{tickOn, Done}
+use Rattle.proposer_works.specs.Works.{answerBytes, Worked}
 use Rattle.proposer.specs.ReceiveLaws.{wrong-size, wrong-answer, no-image, ticked}
 use borrow.Author.Needs.{needs}
 use Rattle.proposer.proofs.tick.Statement.{statement}

@@ -1,0 +1,10 @@
+pub mod Works
+pub mod WorksLaws
+pub mod Sent
+pub mod NewValue
+pub mod Lent
+pub mod Answerers
+pub mod AskLaws
+pub mod Found
+pub mod Dropped
+pub mod Room
