@@ -51,7 +51,7 @@ fn long_line(buf: &mut [u8], to: usize) -> Window
                 to: n,
             };
         }
-        let end = script::place_of(&buf[0..more], n, b'\n');
+        let end = script_words::place_of(&buf[0..more], n, b'\n');
         if end < more {
             return Window {
                 from: 0,
@@ -78,7 +78,7 @@ pub fn next_line(buf: &mut [u8], from: usize, to: usize) -> Window
     if to < from {
         return long_line(buf, 0);
     }
-    let end = script::place_of(&buf[0..to], from, b'\n');
+    let end = script_words::place_of(&buf[0..to], from, b'\n');
     if end < to {
         return Window { from, end, to };
     }

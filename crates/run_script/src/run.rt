@@ -133,9 +133,9 @@ const LINE_MOST: usize = 4096;
 fn stop(s: Run, out: &mut [u8], line: u64, why: &[u8]) -> Run
     ensures { λ r. ⌜ (r .bytes ≡ s .bytes) × (r .area ≡ s .area) × (r .reach ≡ s .reach) × (r .at ≤ length (now (out .exit))) ⌝ }
 {
-    let p = script::put_text(out, s.at, b"line ");
-    let q = script::put_number(out, p, line);
-    let at = script::put_text(out, q, why);
+    let p = script_words::put_text(out, s.at, b"line ");
+    let q = script_words::put_number(out, p, line);
+    let at = script_words::put_text(out, q, why);
     s.written(at).over()
 }
 

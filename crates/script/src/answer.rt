@@ -1,8 +1,4 @@
 // An answer as a line of text. The bytes of its message stand in the answer area, where messages/specs/Answers.antt says.
-use super::put::put_byte;
-use super::put::put_hex;
-use super::put::put_number;
-use super::put::put_text;
 use messages::Address;
 use messages::Answer;
 use messages::Ballot;
@@ -13,6 +9,10 @@ use messages::Req;
 use messages::Res;
 use messages::Response;
 use messages::Rpc;
+use script_words::put_byte;
+use script_words::put_hex;
+use script_words::put_number;
+use script_words::put_text;
 ghost use Prim.Native.Nat.{_≤_, _+_};
 ghost use lib.ListN.{length};
 

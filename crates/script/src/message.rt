@@ -1,11 +1,4 @@
 // A message's words: which message they are. Its bytes are checked here and stored by `read`.
-use super::bytes::is_bytes;
-use super::list::is_list;
-use super::number::Number;
-use super::number::read_number;
-use super::words::Words;
-use super::words::is;
-use super::words::word;
 use messages::Ballot;
 use messages::Error;
 use messages::OptionValue;
@@ -13,6 +6,13 @@ use messages::Req;
 use messages::Res;
 use messages::Response;
 use messages::Rpc;
+use script_words::Number;
+use script_words::Words;
+use script_words::is;
+use script_words::is_bytes;
+use script_words::is_list;
+use script_words::read_number;
+use script_words::word;
 ghost use Prim.Native.Nat.{_<_};
 
 pub enum Given {

@@ -1,11 +1,11 @@
 // Which words of a message's line hold its bytes.
-use super::words::WORDS_MOST;
 use messages::Error;
 use messages::OptionValue;
 use messages::Req;
 use messages::Res;
 use messages::Response;
 use messages::Rpc;
+use script_words::WORDS_MOST;
 
 // The place of no word: the word there is empty.
 pub const NO_WORD: usize = WORDS_MOST;

@@ -1,25 +1,25 @@
 // A line of a script: which step it is, and its bytes in lent buffers.
-use super::bytes::is_bytes;
-use super::bytes::unhex;
-use super::list::is_list;
-use super::list::read_list;
 use super::message::Message;
 use super::message::read_message;
-use super::number::Number;
-use super::number::Sender;
-use super::number::read_address;
-use super::number::read_number;
 use super::places::Places;
 use super::places::no_places;
 use super::places::places_of;
 use super::places::poke_places;
 use super::places::start_places;
-use super::words::Words;
-use super::words::is;
-use super::words::split;
-use super::words::word;
 use messages::Address;
 use messages::Rpc;
+use script_words::Number;
+use script_words::Sender;
+use script_words::Words;
+use script_words::is;
+use script_words::is_bytes;
+use script_words::is_list;
+use script_words::read_address;
+use script_words::read_list;
+use script_words::read_number;
+use script_words::split;
+use script_words::unhex;
+use script_words::word;
 ghost use Prim.Native.Nat.{_≤_};
 ghost use lib.ListN.{length};
 
