@@ -1,15 +1,15 @@
 // Runs a script from standard input (docs/SCRIPT.md): each message and tick goes to an acceptor or a proposer, and its answer is a line of output.
-mod input;
 mod output;
 mod run;
 
-use input::Window;
-use input::next_line;
 use output::flush;
 use run::Run;
 use run::obey;
-ghost use Prim.Native.Nat.{_≤_};
-ghost use Rattle.run_script.specs.Held.{Held, Shows};
+use script_input::Window;
+use script_input::after;
+use script_input::next_line;
+ghost use Rattle.run_script.specs.Held.{Held};
+ghost use Rattle.script_input.specs.Shown.{Shows};
 
 // A proved loop has to end, and nothing says that the input does: lines are counted up to a number that no script has.
 const LINES_MOST: u64 = 1099511627776;
@@ -93,16 +93,6 @@ fn run_lines(
             return;
         }
     }
-}
-
-// Where the next line begins, behind a line end or at the end.
-fn after(end: usize, to: usize) -> usize
-    ensures { λ r. ⌜ r ≤ to ⌝ }
-{
-    if end < to {
-        return end + 1;
-    }
-    to
 }
 
 fn main() {

@@ -370,6 +370,14 @@ fn tick(s: Run, table: &mut [u8], area: &mut [u8], out: &mut [u8], time: u64) ->
     if !s.proposer {
         return answered(s, area, out, acceptor::tick());
     }
+    tick_proposer(s, table, area, out, time)
+}
+
+// A tick to the proposer, with what is lent.
+fn tick_proposer(s: Run, table: &mut [u8], area: &mut [u8], out: &mut [u8], time: u64) -> Run
+    requires { ⌜ Held s (now table) (now area) (now out) ⌝ }
+    ensures { λ r. ⌜ Held r (now (table .exit)) (now (area .exit)) (now (out .exit)) ⌝ }
+{
     let bytes = s.bytes;
     let n = s.area;
     let answer = proposer::tick(&mut table[0..bytes], s.capacity, time, &mut area[0..n]);

@@ -1,10 +1,10 @@
--- The words of a script: where a byte stands, when two words are the same, the number and the address that a word is, and when it stands for bytes.
+-- The words of a script: where a byte stands, when two words are the same, the number and the address that a word is, and when it stands for bytes or a list.
 -- Assumes nothing.
 use mathlib.Core.Bool.{Bool, true, false, cond, _&&_, _||_}
 use mathlib.Core.List.{List, [], _∷_}
-use Prim.Native.Nat.{ℕ, suc, _+_, _-_, _*_, _%_, _^_}
+use Prim.Native.Nat.{ℕ, zero, suc, _+_, _-_, _*_, _%_, _^_}
 use lib.Dec.{eqb, ltb, leb}
-use lib.ListN.{length}
+use lib.ListN.{length, take, drop}
 use Rattle.script_words.specs.declared.number.Number.{Number}
 use Rattle.script_words.specs.declared.number.Sender.{Sender}
 
@@ -57,3 +57,17 @@ allHex (b ∷ l) = isHex b && allHex l
 unfoldable pub bytesWord : List ℕ → Bool
 bytesWord [] = false
 bytesWord (b ∷ l) = eqb b 120 && eqb (length l % 2) 0 && leb (length l) 1200 && allHex l
+
+abbrev pub isGood : Sender → Bool
+isGood Sender.Bad = false
+isGood (Sender.Good a) = true
+
+-- one to n numbers of 16 bits with commas between them
+unfoldable pub listFrom : ℕ → List ℕ → Bool
+listFrom zero w = false
+listFrom (suc n) w =
+    isGood (addressOf (take (upTo 44 w) w)) && (leb (length w) (upTo 44 w) || listFrom n (drop (suc (upTo 44 w)) w))
+
+-- `-`, or one to 32 numbers
+unfoldable pub listWord : List ℕ → Bool
+listWord w = alike w (45 ∷ []) || listFrom 32 w

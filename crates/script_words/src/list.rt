@@ -6,12 +6,25 @@ use super::words::place_of;
 ghost use mathlib.Core.Path.{_≡_};
 ghost use Prim.Native.Nat.{_≤_};
 ghost use lib.ListN.{length};
+ghost use Rattle.script_words.specs.Text.{addressOf, isGood, listWord};
 
 // The most numbers that one list can give.
 pub const LIST_ROOM: usize = 32;
 
+// Whether a word is an entry of a list.
+fn is_entry(word: &[u8]) -> bool
+    ensures { λ r. ⌜ r ≡ isGood (addressOf (now (word .entry))) ⌝ }
+{
+    match read_address(word) {
+        Sender::Bad => false,
+        Sender::Good(_) => true,
+    }
+}
+
 // Whether a word is a list.
-pub fn is_list(word: &[u8]) -> bool {
+pub fn is_list(word: &[u8]) -> bool
+    ensures { λ r. ⌜ r ≡ listWord (now (word .entry)) ⌝ }
+{
     if is(word, b"-") {
         return true;
     }
@@ -19,9 +32,9 @@ pub fn is_list(word: &[u8]) -> bool {
     let mut from = 0;
     while n < LIST_ROOM {
         let to = place_of(word, from, b',');
-        let Sender::Good(_) = read_address(&word[from..to]) else {
+        if !is_entry(&word[from..to]) {
             return false;
-        };
+        }
         if word.len() <= to {
             return true;
         }

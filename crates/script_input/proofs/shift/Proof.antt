@@ -1,11 +1,11 @@
--- `run_script::input::shift` meets its contract. The loop's invariant: the buffer's length stays.
+-- `script_input::shift` meets its contract. The loop's invariant: the buffer's length stays.
 -- Assumes nothing.
 use mathlib.Core.Path.{_≡_}
 use Prim.Native.Nat.{_-_}
 use lib.ListN.{length}
 use borrow.Author.Needs.{needs}
-use Rattle.run_script.proofs.input.shift.Statement.{statement}
-use Rattle.run_script.proofs.input.shift.Tie as tie
+use Rattle.script_input.proofs.shift.Statement.{statement}
+use Rattle.script_input.proofs.shift.Tie as tie
 
 abbrev Inv-loop : tie.InvT-loop
 Inv-loop buf₀ from to n i₀ buf i = length buf ≡ length buf₀

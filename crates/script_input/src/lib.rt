@@ -1,8 +1,8 @@
 // Standard input, line by line: a window on a buffer, which is filled as the lines are used up.
 ghost use mathlib.Core.Path.{_≡_};
-ghost use Prim.Native.Nat.{_≤_, _+_, _-_};
+ghost use Prim.Native.Nat.{_≤_, _+_, min};
 ghost use lib.ListN.{length};
-ghost use Rattle.run_script.specs.Held.{Shows};
+ghost use Rattle.script_input.specs.Shown.{Shows};
 
 // The line from `from` to `end`; what was read reaches to `to`. Where `end` is `to` the line has no line end: it is the input's last, or
 // longer than the buffer.
@@ -84,4 +84,14 @@ pub fn next_line(buf: &mut [u8], from: usize, to: usize) -> Window
     }
     shift(buf, from, to);
     long_line(buf, to - from)
+}
+
+// Where the next line begins, behind a line end or at the end.
+pub fn after(end: usize, to: usize) -> usize
+    ensures { λ r. ⌜ r ≡ min (end + 1) to ⌝ }
+{
+    if end < to {
+        return end + 1;
+    }
+    to
 }

@@ -1,11 +1,11 @@
--- `run_script::input::long_line` meets its contract. The loop's invariant: what was read is within the buffer, whose length stays. Each turn reads a byte or more.
+-- `script_input::long_line` meets its contract. The loop's invariant: what was read is within the buffer, whose length stays. Each turn reads a byte or more.
 -- Assumes nothing.
 use mathlib.Core.Path.{_≡_}
 use Prim.Native.Nat.{_-_, _≤_}
 use lib.ListN.{length}
 use borrow.Author.Needs.{needs}
-use Rattle.run_script.proofs.input.long_line.Statement.{statement}
-use Rattle.run_script.proofs.input.long_line.Tie as tie
+use Rattle.script_input.proofs.long_line.Statement.{statement}
+use Rattle.script_input.proofs.long_line.Tie as tie
 
 abbrev Inv-loop : tie.InvT-loop
 Inv-loop buf₀ to n₀ buf n = (n ≤ length buf) × (length buf ≡ length buf₀)
