@@ -58,6 +58,16 @@ unfoldable pub bytesWord : List ℕ → Bool
 bytesWord [] = false
 bytesWord (b ∷ l) = eqb b 120 && eqb (length l % 2) 0 && leb (length l) 1200 && allHex l
 
+-- a byte for each two hex digits
+unfoldable pub unhexed : List ℕ → List ℕ
+unhexed [] = []
+unhexed (a ∷ []) = []
+unhexed (a ∷ b ∷ l) = (hexValue a * 16 + hexValue b) ∷ unhexed l
+
+-- the bytes that a word stands for; none for the empty word
+abbrev pub bytesOf : List ℕ → List ℕ
+bytesOf w = unhexed (drop 1 w)
+
 abbrev pub isGood : Sender → Bool
 isGood Sender.Bad = false
 isGood (Sender.Good a) = true

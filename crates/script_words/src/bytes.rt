@@ -2,7 +2,8 @@
 ghost use mathlib.Core.Path.{_≡_};
 ghost use Prim.Native.Nat.{_+_, _-_, _*_, _≤_, _<_};
 ghost use lib.ListN.{length};
-ghost use Rattle.script_words.specs.Text.{isHex, hexValue, allHex, bytesWord};
+ghost use Rattle.script_words.specs.Text.{isHex, hexValue, allHex, bytesWord, bytesOf};
+ghost use Rattle.script_words.specs.Written.{written, behind};
 
 // The most bytes that one word can give.
 pub const BYTES_MOST: usize = 600;
@@ -76,7 +77,7 @@ pub fn is_bytes(word: &[u8]) -> bool
 
 // The bytes that a word stands for, stored at the front of a buffer as far as it reaches; how many. None for the empty word.
 pub fn unhex(word: &[u8], out: &mut [u8]) -> usize
-    ensures { λ r. ⌜ (r ≤ length (now (out .exit))) × (length (now (out .exit)) ≡ length (now (out .entry))) ⌝ }
+    ensures { λ r. ⌜ (r ≤ length (now (out .exit))) × (r ≡ behind (now (out .entry)) 0 (length (bytesOf (now (word .entry))))) × (now (out .exit) ≡ written (now (out .entry)) 0 (bytesOf (now (word .entry)))) ⌝ }
 {
     let mut i = 0;
     let mut at = 1;

@@ -1,10 +1,13 @@
 // Text, numbers and bytes, put into a lent buffer from a place on; each answers the place behind. What doesn't fit is left out, and the
 // place stays within the buffer.
-ghost use Prim.Native.Nat.{_≤_};
+ghost use mathlib.Core.Path.{_≡_};
+ghost use mathlib.Core.List.{[], _∷_};
+ghost use Prim.Native.Nat.{_≤_, _*_};
 ghost use lib.ListN.{length};
+ghost use Rattle.script_words.specs.Written.{written, behind, hexDigit, hexOf, decimal};
 
 pub fn put_text(out: &mut [u8], at: usize, text: &[u8]) -> usize
-    ensures { λ r. ⌜ r ≤ length (now (out .exit)) ⌝ }
+    ensures { λ r. ⌜ (r ≤ length (now (out .exit))) × (r ≡ behind (now (out .entry)) at (length (now (text .entry)))) × (now (out .exit) ≡ written (now (out .entry)) at (now (text .entry))) ⌝ }
 {
     if out.len() < at {
         return out.len();
@@ -23,7 +26,7 @@ pub fn put_text(out: &mut [u8], at: usize, text: &[u8]) -> usize
 }
 
 pub fn put_byte(out: &mut [u8], at: usize, b: u8) -> usize
-    ensures { λ r. ⌜ r ≤ length (now (out .exit)) ⌝ }
+    ensures { λ r. ⌜ (r ≤ length (now (out .exit))) × (r ≡ behind (now (out .entry)) at (1)) × (now (out .exit) ≡ written (now (out .entry)) at (b ∷ [])) ⌝ }
 {
     if out.len() <= at {
         return out.len();
@@ -34,7 +37,7 @@ pub fn put_byte(out: &mut [u8], at: usize, b: u8) -> usize
 
 // In decimal, with no zeros in front.
 pub fn put_number(out: &mut [u8], at: usize, n: u64) -> usize
-    ensures { λ r. ⌜ r ≤ length (now (out .exit)) ⌝ }
+    ensures { λ r. ⌜ (r ≤ length (now (out .exit))) × (r ≡ behind (now (out .entry)) at (length (decimal n))) × (now (out .exit) ≡ written (now (out .entry)) at (decimal n)) ⌝ }
 {
     let mut digits = [b'0'; 20];
     let mut rest = n;
@@ -50,7 +53,9 @@ pub fn put_number(out: &mut [u8], at: usize, n: u64) -> usize
     put_text(out, at, &digits[i..])
 }
 
-fn hex_digit(n: u8) -> u8 {
+fn hex_digit(n: u8) -> u8
+    ensures { λ r. ⌜ r ≡ hexDigit n ⌝ }
+{
     if n < 10 {
         return b'0' + n;
     }
@@ -60,15 +65,22 @@ fn hex_digit(n: u8) -> u8 {
     b'?'
 }
 
+// Two hex digits for a byte.
+fn put_hex_byte(out: &mut [u8], at: usize, b: u8) -> usize
+    ensures { λ r. ⌜ (r ≤ length (now (out .exit))) × (r ≡ behind (now (out .entry)) at 2) × (now (out .exit) ≡ written (now (out .entry)) at (hexOf (b ∷ []))) ⌝ }
+{
+    let p = put_byte(out, at, hex_digit(b / 16));
+    put_byte(out, p, hex_digit(b % 16))
+}
+
 // Two hex digits for each byte.
 pub fn put_hex(out: &mut [u8], at: usize, bytes: &[u8]) -> usize
-    ensures { λ r. ⌜ r ≤ length (now (out .exit)) ⌝ }
+    ensures { λ r. ⌜ (r ≤ length (now (out .exit))) × (r ≡ behind (now (out .entry)) at (2 * length (now (bytes .entry)))) × (now (out .exit) ≡ written (now (out .entry)) at (hexOf (now (bytes .entry)))) ⌝ }
 {
     let mut p = at;
     let mut i = 0;
     while i < bytes.len() {
-        p = put_byte(out, p, hex_digit(bytes[i] / 16));
-        p = put_byte(out, p, hex_digit(bytes[i] % 16));
+        p = put_hex_byte(out, p, bytes[i]);
         i += 1;
     }
     if out.len() < p {
