@@ -482,9 +482,7 @@ fn obey_line(
     table: &mut [u8],
     area: &mut [u8],
     out: &mut [u8],
-    key: &mut [u8],
-    value: &mut [u8],
-    other: &mut [u8],
+    bytes: &mut [u8],
     list: &mut [u16],
 ) -> Run
     requires { ⌜ Held s (now table) (now area) (now out) ⌝ }
@@ -493,7 +491,7 @@ fn obey_line(
     if LINE_MOST < text.len() {
         return unreadable(s, out, line);
     }
-    let read = script::read(text, key, value, other, list);
+    let read = script::read(text, bytes, list);
     let step = read.step;
     let k = read.key;
     let v = read.value;
@@ -506,9 +504,9 @@ fn obey_line(
         area,
         out,
         line,
-        &key[0..k],
-        &value[0..v],
-        &other[0..o],
+        &bytes[0..k],
+        &bytes[k..v],
+        &bytes[v..o],
         &list[0..l],
     )
 }
@@ -521,25 +519,12 @@ pub fn obey(
     table: &mut [u8],
     area: &mut [u8],
     out: &mut [u8],
-    key: &mut [u8],
-    value: &mut [u8],
-    other: &mut [u8],
+    bytes: &mut [u8],
     list: &mut [u16],
 ) -> Run
     requires { ⌜ Held s (now table) (now area) (now out) ⌝ }
     ensures { λ r. ⌜ Held r (now (table .exit)) (now (area .exit)) (now (out .exit)) ⌝ }
 {
     let at = make_room(out, s.at);
-    obey_line(
-        s.written(at),
-        text,
-        line,
-        table,
-        area,
-        out,
-        key,
-        value,
-        other,
-        list,
-    )
+    obey_line(s.written(at), text, line, table, area, out, bytes, list)
 }

@@ -45,7 +45,7 @@ pub enum Step {
     Unreadable,
 }
 
-// A step, and how many bytes or numbers stand at the front of each lent buffer.
+// A step, where its key, its value and its other value end in the lent bytes, one behind the other, and how many numbers its list has.
 pub struct Line {
     pub step: Step,
     pub key: usize,
@@ -208,15 +208,9 @@ fn is_passed(line: &[u8]) -> bool {
     line[0] == b'#'
 }
 
-// A line's step, and its bytes at the fronts of the lent buffers.
-pub fn read(
-    line: &[u8],
-    key: &mut [u8],
-    value: &mut [u8],
-    other: &mut [u8],
-    list: &mut [u16],
-) -> Line
-    ensures { λ r. ⌜ (r .key ≤ length (now (key .exit))) × (r .value ≤ length (now (value .exit))) × (r .other ≤ length (now (other .exit))) × (r .list ≤ length (now (list .exit))) ⌝ }
+// A line's step, and its bytes and numbers at the fronts of the lent buffers.
+pub fn read(line: &[u8], bytes: &mut [u8], list: &mut [u16]) -> Line
+    ensures { λ r. ⌜ (r .key ≤ r .value) × (r .value ≤ r .other) × (r .other ≤ length (now (bytes .exit))) × (r .list ≤ length (now (list .exit))) ⌝ }
 {
     if is_passed(line) {
         return Line {
@@ -230,15 +224,15 @@ pub fn read(
     let words = split(line);
     let step = read_step(line, words);
     let places = step_places(step);
-    let in_key = unhex(word(line, words, places.key), key);
-    let in_value = unhex(word(line, words, places.value), value);
-    let in_other = unhex(word(line, words, places.other), other);
-    let in_list = read_list(word(line, words, places.list), list);
+    let key = unhex(word(line, words, places.key), bytes, 0);
+    let value = unhex(word(line, words, places.value), bytes, key);
+    let other = unhex(word(line, words, places.other), bytes, value);
+    let n = read_list(word(line, words, places.list), list);
     Line {
         step,
-        key: in_key,
-        value: in_value,
-        other: in_other,
-        list: in_list,
+        key,
+        value,
+        other,
+        list: n,
     }
 }

@@ -75,22 +75,25 @@ pub fn is_bytes(word: &[u8]) -> bool
     all_hex(&word[1..])
 }
 
-// The bytes that a word stands for, stored at the front of a buffer as far as it reaches; how many. None for the empty word.
-pub fn unhex(word: &[u8], out: &mut [u8]) -> usize
-    ensures { λ r. ⌜ (r ≤ length (now (out .exit))) × (r ≡ behind (now (out .entry)) 0 (length (bytesOf (now (word .entry))))) × (now (out .exit) ≡ written (now (out .entry)) 0 (bytesOf (now (word .entry)))) ⌝ }
+// The bytes that a word stands for, put into a buffer from a place on as far as it reaches; the place behind. None for the empty word.
+pub fn unhex(word: &[u8], out: &mut [u8], at: usize) -> usize
+    ensures { λ r. ⌜ (r ≤ length (now (out .exit))) × (r ≡ behind (now (out .entry)) at (length (bytesOf (now (word .entry))))) × (now (out .exit) ≡ written (now (out .entry)) at (bytesOf (now (word .entry)))) ⌝ }
 {
-    let mut i = 0;
-    let mut at = 1;
-    while i < out.len() {
-        if word.len() < at {
-            return i;
-        }
-        if word.len() - at < 2 {
-            return i;
-        }
-        out[i] = hex_value(word[at]) * 16 + hex_value(word[at + 1]);
-        i += 1;
-        at += 2;
+    if out.len() < at {
+        return out.len();
     }
-    i
+    let mut p = at;
+    let mut i = 1;
+    while p < out.len() {
+        if word.len() < i {
+            return p;
+        }
+        if word.len() - i < 2 {
+            return p;
+        }
+        out[p] = hex_value(word[i]) * 16 + hex_value(word[i + 1]);
+        p += 1;
+        i += 2;
+    }
+    p
 }

@@ -14,12 +14,12 @@ use Rattle.script_words.proofs.bytes.unhex.Statement.{statement}
 use Rattle.script_words.proofs.bytes.unhex.Tie as tie
 
 abbrev Inv-loop : tie.InvT-loop
-Inv-loop word out₀ i₀ at₀ out i at =
-    (i ≤ length out) × (length out ≡ length out₀) × (i + length (unhexed (drop at word)) ≡ length (bytesOf word))
-    × (sets out i (unhexed (drop at word)) ≡ sets out₀ 0 (bytesOf word))
+Inv-loop word out₀ at p₀ i₀ out p i =
+    (p ≤ length out) × (length out ≡ length out₀) × (p + length (unhexed (drop i word)) ≡ at + length (bytesOf word))
+    × (sets out p (unhexed (drop i word)) ≡ sets out₀ at (bytesOf word))
 
 abbrev μ-loop : tie.MeasureT-loop
-μ-loop word out₀ i₀ at₀ out i at = length out - i
+μ-loop word out₀ at p₀ i₀ out p i = length out - p
 
 short : (l : List ℕ) → length l < 2 → unhexed l ≡ []
 unfolding unhexed
@@ -39,28 +39,32 @@ pair w at h =
     let e : at + 2 ≡ suc (suc at) = omega arith in
     rw (drop-cons w at 0 k, drop-cons w (suc at) 0 k′, e, add-one at)
 
-ends : (out₀ out w : List ℕ) (i at : ℕ) → length w < at → sets out i (unhexed (drop at w)) ≡ sets out₀ 0 (bytesOf w) → out ≡ written out₀ 0 (bytesOf w)
+outside : (out w : List ℕ) (at : ℕ) → length out < at → out ≡ written out at (bytesOf w)
 unfolding written
-ends out₀ out w i at h e = rw (none-left w at (omega arith)) at e
+outside out w at h = sym (sets-past out (bytesOf w) at (omega arith))
 
-ends-short : (out₀ out w : List ℕ) (i at : ℕ) → length w - at < 2 → sets out i (unhexed (drop at w)) ≡ sets out₀ 0 (bytesOf w) → out ≡ written out₀ 0 (bytesOf w)
+ends : (out₀ out w : List ℕ) (at p i : ℕ) → length w < i → sets out p (unhexed (drop i w)) ≡ sets out₀ at (bytesOf w) → out ≡ written out₀ at (bytesOf w)
 unfolding written
-ends-short out₀ out w i at h e = rw (none-left w at h) at e
+ends out₀ out w at p i h e = rw (none-left w i (omega arith)) at e
 
-cut : (out₀ out w : List ℕ) (i at : ℕ) → length out ≤ i → sets out i (unhexed (drop at w)) ≡ sets out₀ 0 (bytesOf w) → out ≡ written out₀ 0 (bytesOf w)
+ends-short : (out₀ out w : List ℕ) (at p i : ℕ) → length w - i < 2 → sets out p (unhexed (drop i w)) ≡ sets out₀ at (bytesOf w) → out ≡ written out₀ at (bytesOf w)
 unfolding written
-cut out₀ out w i at h e = sym (sets-past out (unhexed (drop at w)) i h) ∙ e
+ends-short out₀ out w at p i h e = rw (none-left w i h) at e
 
-count : (out₀ out w : List ℕ) (i at : ℕ) → i ≤ length out → length out ≡ length out₀ → length w - at < 2 → i + length (unhexed (drop at w)) ≡ length (bytesOf w) → i ≡ behind out₀ 0 (length (bytesOf w))
-count out₀ out w i at l e h n =
-    let z : length (unhexed (drop at w)) ≡ 0 = ap length (none-left w at h) in
+cut : (out₀ out w : List ℕ) (at p i : ℕ) → length out ≤ p → sets out p (unhexed (drop i w)) ≡ sets out₀ at (bytesOf w) → out ≡ written out₀ at (bytesOf w)
+unfolding written
+cut out₀ out w at p i h e = sym (sets-past out (unhexed (drop i w)) p h) ∙ e
+
+count : (out₀ out w : List ℕ) (at p i : ℕ) → p ≤ length out → length out ≡ length out₀ → length w - i < 2 → p + length (unhexed (drop i w)) ≡ at + length (bytesOf w) → p ≡ behind out₀ at (length (bytesOf w))
+count out₀ out w at p i l e h n =
+    let z : length (unhexed (drop i w)) ≡ 0 = ap length (none-left w i h) in
     omega arith
 
-count-past : (out₀ out w : List ℕ) (i at : ℕ) → i ≤ length out → length out ≡ length out₀ → length w < at → i + length (unhexed (drop at w)) ≡ length (bytesOf w) → i ≡ behind out₀ 0 (length (bytesOf w))
-count-past out₀ out w i at l e h n = count out₀ out w i at l e (omega arith) n
+count-past : (out₀ out w : List ℕ) (at p i : ℕ) → p ≤ length out → length out ≡ length out₀ → length w < i → p + length (unhexed (drop i w)) ≡ at + length (bytesOf w) → p ≡ behind out₀ at (length (bytesOf w))
+count-past out₀ out w at p i l e h n = count out₀ out w at p i l e (omega arith) n
 
-full : (out₀ out w : List ℕ) (i at : ℕ) → i ≤ length out → length out ≡ length out₀ → length out ≤ i → i + length (unhexed (drop at w)) ≡ length (bytesOf w) → i ≡ behind out₀ 0 (length (bytesOf w))
-full out₀ out w i at l e h n = omega arith
+full : (out₀ out w : List ℕ) (at p i : ℕ) → p ≤ length out → length out ≡ length out₀ → length out ≤ p → p + length (unhexed (drop i w)) ≡ at + length (bytesOf w) → p ≡ behind out₀ at (length (bytesOf w))
+full out₀ out w at p i l e h n = omega arith
 
 counted : (w : List ℕ) (i at n : ℕ) → at ≤ length w → 2 ≤ length w - at → i + length (unhexed (drop at w)) ≡ n → i + 1 + length (unhexed (drop (at + 2) w)) ≡ n
 counted w i at n h k e =
@@ -70,23 +74,26 @@ counted w i at n h k e =
 turn : (out r w : List ℕ) (i at a b : ℕ) → at ≤ length w → 2 ≤ length w - at → a ≡ hexValue (getD w at 0) → b ≡ hexValue (getD w (at + 1) 0) → sets out i (unhexed (drop at w)) ≡ r → sets (set out i (a * 16 + b)) (i + 1) (unhexed (drop (at + 2) w)) ≡ r
 turn out r w i at a b h k ea eb e = rw (ea, eb, add-one i) (rw (pair w at (omega arith)) at e)
 
+returns : tie.Need-returns Inv-loop μ-loop
+returns c = (search needs, omega arith, search outside)
+
 loop-holds : tie.Need-loop-holds Inv-loop μ-loop
 loop-holds c = (search needs, search needs, omega arith, refl)
 
 same-length : tie.Need-same-length Inv-loop μ-loop
 same-length c = search needs
 
-returns : tie.Need-returns Inv-loop μ-loop
-returns c = (search needs, search count-past, search ends)
+returns-2 : tie.Need-returns-2 Inv-loop μ-loop
+returns-2 c = (search needs, search count-past, search ends)
 
-sub-if2 : tie.Need-sub-if2 Inv-loop μ-loop
-sub-if2 c = search needs
+sub-if3 : tie.Need-sub-if3 Inv-loop μ-loop
+sub-if3 c = search needs
 
 same-length-2 : tie.Need-same-length-2 Inv-loop μ-loop
 same-length-2 c = search needs
 
-returns-2 : tie.Need-returns-2 Inv-loop μ-loop
-returns-2 c = (search needs, search count, search ends-short)
+returns-3 : tie.Need-returns-3 Inv-loop μ-loop
+returns-3 c = (search needs, search count, search ends-short)
 
 shared-slice-read-hex-value : tie.Need-shared-slice-read-hex-value Inv-loop μ-loop
 shared-slice-read-hex-value c = search needs
@@ -112,11 +119,11 @@ add-out c = search needs
 slice-write-out : tie.Need-slice-write-out Inv-loop μ-loop
 slice-write-out c = search needs
 
+add-p : tie.Need-add-p Inv-loop μ-loop
+add-p c = search needs
+
 add-i : tie.Need-add-i Inv-loop μ-loop
 add-i c = search needs
-
-add-at : tie.Need-add-at Inv-loop μ-loop
-add-at c = search needs
 
 loop-less : tie.Need-loop-less Inv-loop μ-loop
 loop-less c = simp length-set (omega arith)
@@ -127,8 +134,8 @@ loop-again c = (simp length-set (omega arith), simp length-set (omega arith), se
 same-length-3 : tie.Need-same-length-3 Inv-loop μ-loop
 same-length-3 c = search needs
 
-returns-3 : tie.Need-returns-3 Inv-loop μ-loop
-returns-3 c = (search needs, search full, search cut)
+returns-4 : tie.Need-returns-4 Inv-loop μ-loop
+returns-4 c = (search needs, search full, search cut)
 
 pub unhex-spec : {M : Type 1} → statement M
 unhex-spec =
@@ -136,12 +143,13 @@ unhex-spec =
     (tie.spec
     Inv-loop
     μ-loop
+    returns
     loop-holds
     same-length
-    returns
-    sub-if2
-    same-length-2
     returns-2
+    sub-if3
+    same-length-2
+    returns-3
     shared-slice-read-hex-value
     hex-value-requires
     mul-out
@@ -150,9 +158,9 @@ unhex-spec =
     hex-value-requires-2
     add-out
     slice-write-out
+    add-p
     add-i
-    add-at
     loop-less
     loop-again
     same-length-3
-    returns-3)
+    returns-4)
