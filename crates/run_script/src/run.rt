@@ -474,9 +474,9 @@ fn take(
     }
 }
 
-// A line of the script, with room in the output for its answer.
-fn obey_line(
-    s: Run,
+// A line of the script, once there is room in the output for its answer.
+pub fn obey(
+    was: Run,
     text: &[u8],
     line: u64,
     table: &mut [u8],
@@ -485,9 +485,11 @@ fn obey_line(
     bytes: &mut [u8],
     list: &mut [u16],
 ) -> Run
-    requires { ⌜ Held s (now table) (now area) (now out) ⌝ }
+    requires { ⌜ Held was (now table) (now area) (now out) ⌝ }
     ensures { λ r. ⌜ Held r (now (table .exit)) (now (area .exit)) (now (out .exit)) ⌝ }
 {
+    let at = make_room(out, was.at);
+    let s = was.written(at);
     if LINE_MOST < text.len() {
         return unreadable(s, out, line);
     }
@@ -509,22 +511,4 @@ fn obey_line(
         &bytes[v..o],
         &list[0..l],
     )
-}
-
-// A line of the script.
-pub fn obey(
-    s: Run,
-    text: &[u8],
-    line: u64,
-    table: &mut [u8],
-    area: &mut [u8],
-    out: &mut [u8],
-    bytes: &mut [u8],
-    list: &mut [u16],
-) -> Run
-    requires { ⌜ Held s (now table) (now area) (now out) ⌝ }
-    ensures { λ r. ⌜ Held r (now (table .exit)) (now (area .exit)) (now (out .exit)) ⌝ }
-{
-    let at = make_room(out, s.at);
-    obey_line(s.written(at), text, line, table, area, out, bytes, list)
 }
