@@ -1,15 +1,15 @@
 // Runs a script from standard input (docs/SCRIPT.md): each message and tick goes to an acceptor or a proposer, and its answer is a line of output.
-mod input;
 mod output;
 mod run;
 
-use input::Window;
-use input::next_line;
 use output::flush;
 use run::Run;
 use run::obey;
-ghost use Prim.Native.Nat.{_≤_};
-ghost use Rattle.run_script.specs.Held.{Held, Shows};
+use script_input::Window;
+use script_input::after;
+use script_input::next_line;
+ghost use Rattle.run_script.specs.Held.{Held};
+ghost use Rattle.script_input.specs.Shown.{Shows};
 
 // A proved loop has to end, and nothing says that the input does: lines are counted up to a number that no script has.
 const LINES_MOST: u64 = 1099511627776;
@@ -21,9 +21,7 @@ fn line_of(
     line: u64,
     table: &mut [u8],
     area: &mut [u8],
-    key: &mut [u8],
-    value: &mut [u8],
-    other: &mut [u8],
+    bytes: &mut [u8],
     list: &mut [u16],
     buf: &[u8],
     out: &mut [u8],
@@ -37,18 +35,7 @@ fn line_of(
     if a == to {
         return s.over();
     }
-    let t = obey(
-        s,
-        &buf[a..e],
-        line,
-        table,
-        area,
-        out,
-        key,
-        value,
-        other,
-        list,
-    );
+    let t = obey(s, &buf[a..e], line, table, area, out, bytes, list);
     t.moved(after(e, to), to)
 }
 
@@ -58,9 +45,7 @@ fn turn(
     line: u64,
     table: &mut [u8],
     area: &mut [u8],
-    key: &mut [u8],
-    value: &mut [u8],
-    other: &mut [u8],
+    bytes: &mut [u8],
     list: &mut [u16],
     buf: &mut [u8],
     out: &mut [u8],
@@ -69,16 +54,14 @@ fn turn(
     ensures { λ r. ⌜ Held r (now (table .exit)) (now (area .exit)) (now (out .exit)) ⌝ }
 {
     let w = next_line(buf, s.from, s.to);
-    line_of(s, w, line, table, area, key, value, other, list, buf, out)
+    line_of(s, w, line, table, area, bytes, list, buf, out)
 }
 
 // The script, line by line, over the buffers of a run.
 fn run_lines(
     table: &mut [u8],
     area: &mut [u8],
-    key: &mut [u8],
-    value: &mut [u8],
-    other: &mut [u8],
+    bytes: &mut [u8],
     list: &mut [u16],
     buf: &mut [u8],
     out: &mut [u8],
@@ -87,7 +70,7 @@ fn run_lines(
     let mut line: u64 = 0;
     while line < LINES_MOST {
         line += 1;
-        s = turn(s, line, table, area, key, value, other, list, buf, out);
+        s = turn(s, line, table, area, bytes, list, buf, out);
         if s.ended {
             flush(out, s.at);
             return;
@@ -95,31 +78,18 @@ fn run_lines(
     }
 }
 
-// Where the next line begins, behind a line end or at the end.
-fn after(end: usize, to: usize) -> usize
-    ensures { λ r. ⌜ r ≤ to ⌝ }
-{
-    if end < to {
-        return end + 1;
-    }
-    to
-}
-
+// `bytes` has room for three words of the most bytes that one can give.
 fn main() {
     let mut table = [0u8; 524800];
     let mut area = [0u8; 1024];
-    let mut key = [0u8; 600];
-    let mut value = [0u8; 600];
-    let mut other = [0u8; 600];
+    let mut bytes = [0u8; 1800];
     let mut list = [0u16; 32];
     let mut buf = [0u8; 65536];
     let mut out = [0u8; 65536];
     run_lines(
         &mut table,
         &mut area,
-        &mut key,
-        &mut value,
-        &mut other,
+        &mut bytes,
         &mut list,
         &mut buf,
         &mut out,

@@ -1,16 +1,19 @@
 // Output is collected in a buffer and written in large pieces.
 use storage_block::BLOCK;
+ghost use mathlib.Core.Path.{_≡_};
 ghost use Prim.Native.Nat.{_≤_, _<_};
 ghost use lib.ListN.{length};
 
 // Room for the longest line: two values of 512 bytes, a key and a list.
 const LINE_ROOM: usize = 8192;
 
-// Writes what is collected.
-pub fn flush(out: &[u8], at: usize)
+// Writes what is collected; the next line goes to the front.
+pub fn flush(out: &[u8], at: usize) -> usize
     requires { ⌜ at ≤ length (now out) ⌝ }
+    ensures { λ r. ⌜ r ≡ 0 ⌝ }
 {
     io::write_all(libc::STDOUT_FILENO, &out[0..at]);
+    0
 }
 
 // Where the next line goes: behind what is collected, or at the front once that is written.
@@ -21,8 +24,7 @@ pub fn make_room(out: &[u8], at: usize) -> usize
     if LINE_ROOM <= out.len() - at {
         return at;
     }
-    flush(out, at);
-    0
+    flush(out, at)
 }
 
 // A line for each block of a table that is not all zeros.

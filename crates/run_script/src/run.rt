@@ -133,9 +133,9 @@ const LINE_MOST: usize = 4096;
 fn stop(s: Run, out: &mut [u8], line: u64, why: &[u8]) -> Run
     ensures { λ r. ⌜ (r .bytes ≡ s .bytes) × (r .area ≡ s .area) × (r .reach ≡ s .reach) × (r .at ≤ length (now (out .exit))) ⌝ }
 {
-    let p = script::put_text(out, s.at, b"line ");
-    let q = script::put_number(out, p, line);
-    let at = script::put_text(out, q, why);
+    let p = script_words::put_text(out, s.at, b"line ");
+    let q = script_words::put_number(out, p, line);
+    let at = script_words::put_text(out, q, why);
     s.written(at).over()
 }
 
@@ -370,6 +370,14 @@ fn tick(s: Run, table: &mut [u8], area: &mut [u8], out: &mut [u8], time: u64) ->
     if !s.proposer {
         return answered(s, area, out, acceptor::tick());
     }
+    tick_proposer(s, table, area, out, time)
+}
+
+// A tick to the proposer, with what is lent.
+fn tick_proposer(s: Run, table: &mut [u8], area: &mut [u8], out: &mut [u8], time: u64) -> Run
+    requires { ⌜ Held s (now table) (now area) (now out) ⌝ }
+    ensures { λ r. ⌜ Held r (now (table .exit)) (now (area .exit)) (now (out .exit)) ⌝ }
+{
     let bytes = s.bytes;
     let n = s.area;
     let answer = proposer::tick(&mut table[0..bytes], s.capacity, time, &mut area[0..n]);
@@ -466,26 +474,26 @@ fn take(
     }
 }
 
-// A line of the script, with room in the output for its answer.
-fn obey_line(
-    s: Run,
+// A line of the script, once there is room in the output for its answer.
+pub fn obey(
+    was: Run,
     text: &[u8],
     line: u64,
     table: &mut [u8],
     area: &mut [u8],
     out: &mut [u8],
-    key: &mut [u8],
-    value: &mut [u8],
-    other: &mut [u8],
+    bytes: &mut [u8],
     list: &mut [u16],
 ) -> Run
-    requires { ⌜ Held s (now table) (now area) (now out) ⌝ }
+    requires { ⌜ Held was (now table) (now area) (now out) ⌝ }
     ensures { λ r. ⌜ Held r (now (table .exit)) (now (area .exit)) (now (out .exit)) ⌝ }
 {
+    let at = make_room(out, was.at);
+    let s = was.written(at);
     if LINE_MOST < text.len() {
         return unreadable(s, out, line);
     }
-    let read = script::read(text, key, value, other, list);
+    let read = script::read(text, bytes, list);
     let step = read.step;
     let k = read.key;
     let v = read.value;
@@ -498,40 +506,9 @@ fn obey_line(
         area,
         out,
         line,
-        &key[0..k],
-        &value[0..v],
-        &other[0..o],
+        &bytes[0..k],
+        &bytes[k..v],
+        &bytes[v..o],
         &list[0..l],
-    )
-}
-
-// A line of the script.
-pub fn obey(
-    s: Run,
-    text: &[u8],
-    line: u64,
-    table: &mut [u8],
-    area: &mut [u8],
-    out: &mut [u8],
-    key: &mut [u8],
-    value: &mut [u8],
-    other: &mut [u8],
-    list: &mut [u16],
-) -> Run
-    requires { ⌜ Held s (now table) (now area) (now out) ⌝ }
-    ensures { λ r. ⌜ Held r (now (table .exit)) (now (area .exit)) (now (out .exit)) ⌝ }
-{
-    let at = make_room(out, s.at);
-    obey_line(
-        s.written(at),
-        text,
-        line,
-        table,
-        area,
-        out,
-        key,
-        value,
-        other,
-        list,
     )
 }

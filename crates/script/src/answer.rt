@@ -1,8 +1,4 @@
 // An answer as a line of text. The bytes of its message stand in the answer area, where messages/specs/Answers.antt says.
-use super::put::put_byte;
-use super::put::put_hex;
-use super::put::put_number;
-use super::put::put_text;
 use messages::Address;
 use messages::Answer;
 use messages::Ballot;
@@ -13,6 +9,11 @@ use messages::Req;
 use messages::Res;
 use messages::Response;
 use messages::Rpc;
+use script_words::place_of;
+use script_words::put_byte;
+use script_words::put_hex;
+use script_words::put_number;
+use script_words::put_text;
 ghost use Prim.Native.Nat.{_≤_, _+_};
 ghost use lib.ListN.{length};
 
@@ -203,23 +204,28 @@ fn put_message(out: &mut [u8], at: usize, rpc: Rpc, key: &[u8], value: &[u8], ot
     }
 }
 
-fn put_refusal(out: &mut [u8], at: usize, refusal: Refusal) -> usize
+// How many bytes each name takes in a row of names.
+const NAME: usize = 14;
+
+// Name i of a row of names, which ends at a space; none where the row is too short.
+fn name_of(names: &[u8], i: usize) -> &[u8]
+    ensures { λ r. ⌜ length (now r) ≤ length (now (names .entry)) ⌝ }
+{
+    if names.len() / NAME < i {
+        return &names[0..0];
+    }
+    let from = i * NAME;
+    let end = place_of(names, from, b' ');
+    &names[from..end]
+}
+
+// A refusal's name. They stand in the order of their numbers, of which there is no 0.
+fn put_refusal(out: &mut [u8], at: usize, n: u8) -> usize
     ensures { λ r. ⌜ r ≤ length (now (out .exit)) ⌝ }
 {
-    match refusal {
-        Refusal::AreaSize => put_text(out, at, b" AreaSize"),
-        Refusal::Damaged => put_text(out, at, b" Damaged"),
-        Refusal::WrongKind => put_text(out, at, b" WrongKind"),
-        Refusal::OverLimit => put_text(out, at, b" OverLimit"),
-        Refusal::FirstPhase => put_text(out, at, b" FirstPhase"),
-        Refusal::Repeated => put_text(out, at, b" Repeated"),
-        Refusal::NotWaitedFor => put_text(out, at, b" NotWaitedFor"),
-        Refusal::ForeignError => put_text(out, at, b" ForeignError"),
-        Refusal::PromisedAbove => put_text(out, at, b" PromisedAbove"),
-        Refusal::CounterUsedUp => put_text(out, at, b" CounterUsedUp"),
-        Refusal::NoRoom => put_text(out, at, b" NoRoom"),
-        Refusal::ClockBack => put_text(out, at, b" ClockBack"),
-    }
+    let names =
+        b"-             AreaSize      Damaged       WrongKind     OverLimit     FirstPhase    Repeated      NotWaitedFor  ForeignError  PromisedAbove CounterUsedUp NoRoom        ClockBack";
+    put_text(out, at, name_of(names, n as usize))
 }
 
 // What stands before entry i of a list.
@@ -323,9 +329,11 @@ fn put_each(
 fn put_refused(out: &mut [u8], at: usize, refusal: Refusal) -> usize
     ensures { λ r. ⌜ r ≤ length (now (out .exit)) ⌝ }
 {
+    let n = refusal.number();
     let p = put_text(out, at, b"refused");
-    let q = put_spaced(out, p, refusal.number() as u64);
-    put_refusal(out, q, refusal)
+    let q = put_spaced(out, p, n as u64);
+    let r = put_byte(out, q, b' ');
+    put_refusal(out, r, n)
 }
 
 // An answer, with its bytes in the answer area; no line end.

@@ -1,11 +1,5 @@
-// A message's words: which message they are. Its bytes are checked here and stored by `read`.
-use super::bytes::is_bytes;
-use super::list::is_list;
-use super::number::Number;
-use super::number::read_number;
-use super::words::Words;
-use super::words::is;
-use super::words::word;
+// A message's words: which message they are. Its bytes are checked here and stored by `read`. Each reader ensures that what it read has
+// as many words as the line.
 use messages::Ballot;
 use messages::Error;
 use messages::OptionValue;
@@ -13,7 +7,23 @@ use messages::Req;
 use messages::Res;
 use messages::Response;
 use messages::Rpc;
+use script_words::Number;
+use script_words::Words;
+use script_words::is;
+use script_words::is_bytes;
+use script_words::is_list;
+use script_words::read_number;
+use script_words::word;
+ghost use mathlib.Core.Path.{_≡_};
 ghost use Prim.Native.Nat.{_<_};
+ghost use Rattle.script.specs.Counts.{
+  failureEnd,
+  resultEnd,
+  askedEnd,
+  repliedEnd,
+  messageCount,
+  messageEnd,
+};
 
 pub enum Given {
     Bad,
@@ -57,7 +67,9 @@ fn read_option(word: &[u8]) -> Given {
 }
 
 // The error with a ballot, from the ballot's word.
-fn read_rejection(name: &[u8], ballot: &[u8]) -> Failure {
+fn read_rejection(name: &[u8], ballot: &[u8]) -> Failure
+    ensures { λ r. ⌜ failureEnd r 0 2 ≡ 2 ⌝ }
+{
     let Number::Good(n) = read_number(ballot) else {
         return Failure::Bad;
     };
@@ -74,6 +86,7 @@ fn read_rejection(name: &[u8], ballot: &[u8]) -> Failure {
 // An error at word i, which ends the line.
 fn read_error(line: &[u8], words: Words, i: usize) -> Failure
     requires { ⌜ i < 8 ⌝ }
+    ensures { λ r. ⌜ failureEnd r i (words .n) ≡ words .n ⌝ }
 {
     let name = word(line, words, i);
     if is(name, b"Timeout") {
@@ -98,6 +111,7 @@ fn read_error(line: &[u8], words: Words, i: usize) -> Failure
 // `Ok` or `Err ERROR` at word i, which ends the line.
 fn read_res(line: &[u8], words: Words, i: usize) -> Result
     requires { ⌜ i < 7 ⌝ }
+    ensures { λ r. ⌜ resultEnd r i (words .n) ≡ words .n ⌝ }
 {
     let name = word(line, words, i);
     if is(name, b"Ok") {
@@ -116,7 +130,9 @@ fn read_res(line: &[u8], words: Words, i: usize) -> Result
 }
 
 // `Ok OPT` or `Err ERROR` at word 3.
-fn read_response(line: &[u8], words: Words) -> Replied {
+fn read_response(line: &[u8], words: Words) -> Replied
+    ensures { λ r. ⌜ repliedEnd r (words .n) ≡ words .n ⌝ }
+{
     let name = word(line, words, 3);
     if is(name, b"Ok") {
         if words.n != 5 {
@@ -137,7 +153,9 @@ fn read_response(line: &[u8], words: Words) -> Replied {
 }
 
 // `Cas` with its two values at words 5 and 6.
-fn read_cas(line: &[u8], words: Words) -> Asked {
+fn read_cas(line: &[u8], words: Words) -> Asked
+    ensures { λ r. ⌜ askedEnd r (words .n) ≡ words .n ⌝ }
+{
     if words.n != 7 {
         return Asked::Bad;
     }
@@ -151,7 +169,9 @@ fn read_cas(line: &[u8], words: Words) -> Asked {
 }
 
 // A request from word 3 on, its key at word 4.
-fn read_req(line: &[u8], words: Words) -> Asked {
+fn read_req(line: &[u8], words: Words) -> Asked
+    ensures { λ r. ⌜ askedEnd r (words .n) ≡ words .n ⌝ }
+{
     let name = word(line, words, 3);
     if !is_bytes(word(line, words, 4)) {
         return Asked::Bad;
@@ -177,21 +197,27 @@ fn read_req(line: &[u8], words: Words) -> Asked {
     Asked::Bad
 }
 
-fn read_client_request(line: &[u8], words: Words, id: u64) -> Message {
+fn read_client_request(line: &[u8], words: Words, id: u64) -> Message
+    ensures { λ r. ⌜ messageEnd r (words .n) ≡ words .n ⌝ }
+{
     let Asked::Good(req) = read_req(line, words) else {
         return Message::Bad;
     };
     Message::Good(Rpc::ClientRequest(id, req))
 }
 
-fn read_client_response(line: &[u8], words: Words, id: u64) -> Message {
+fn read_client_response(line: &[u8], words: Words, id: u64) -> Message
+    ensures { λ r. ⌜ messageEnd r (words .n) ≡ words .n ⌝ }
+{
     let Replied::Good(response) = read_response(line, words) else {
         return Message::Bad;
     };
     Message::Good(Rpc::ClientResponse(id, response))
 }
 
-fn read_propose_req(line: &[u8], words: Words, ballot: Ballot) -> Message {
+fn read_propose_req(line: &[u8], words: Words, ballot: Ballot) -> Message
+    ensures { λ r. ⌜ messageEnd r (words .n) ≡ words .n ⌝ }
+{
     if words.n != 4 {
         return Message::Bad;
     }
@@ -201,7 +227,9 @@ fn read_propose_req(line: &[u8], words: Words, ballot: Ballot) -> Message {
     Message::Good(Rpc::ProposeReq(ballot))
 }
 
-fn read_propose_res(line: &[u8], words: Words, ballot: Ballot) -> Message {
+fn read_propose_res(line: &[u8], words: Words, ballot: Ballot) -> Message
+    ensures { λ r. ⌜ messageEnd r (words .n) ≡ words .n ⌝ }
+{
     let Number::Good(last) = read_number(word(line, words, 3)) else {
         return Message::Bad;
     };
@@ -219,7 +247,9 @@ fn read_propose_res(line: &[u8], words: Words, ballot: Ballot) -> Message {
     })
 }
 
-fn read_accept_req(line: &[u8], words: Words, ballot: Ballot) -> Message {
+fn read_accept_req(line: &[u8], words: Words, ballot: Ballot) -> Message
+    ensures { λ r. ⌜ messageEnd r (words .n) ≡ words .n ⌝ }
+{
     if words.n != 5 {
         return Message::Bad;
     }
@@ -232,7 +262,9 @@ fn read_accept_req(line: &[u8], words: Words, ballot: Ballot) -> Message {
     Message::Good(Rpc::AcceptReq(ballot, o))
 }
 
-fn read_accept_res(line: &[u8], words: Words, ballot: Ballot) -> Message {
+fn read_accept_res(line: &[u8], words: Words, ballot: Ballot) -> Message
+    ensures { λ r. ⌜ messageEnd r (words .n) ≡ words .n ⌝ }
+{
     let Result::Good(res) = read_res(line, words, 3) else {
         return Message::Bad;
     };
@@ -240,7 +272,10 @@ fn read_accept_res(line: &[u8], words: Words, ballot: Ballot) -> Message {
 }
 
 // One of the two messages with a list.
-fn read_list_message(line: &[u8], words: Words, rpc: Rpc) -> Message {
+fn read_list_message(line: &[u8], words: Words, rpc: Rpc) -> Message
+    requires { ⌜ messageCount rpc ≡ 3 ⌝ }
+    ensures { λ r. ⌜ messageEnd r (words .n) ≡ words .n ⌝ }
+{
     if words.n != 3 {
         return Message::Bad;
     }
@@ -251,7 +286,9 @@ fn read_list_message(line: &[u8], words: Words, rpc: Rpc) -> Message {
 }
 
 // One of the messages whose word 2 is a number: a request's id or a ballot.
-fn read_numbered(line: &[u8], words: Words, name: &[u8], n: u64) -> Message {
+fn read_numbered(line: &[u8], words: Words, name: &[u8], n: u64) -> Message
+    ensures { λ r. ⌜ messageEnd r (words .n) ≡ words .n ⌝ }
+{
     if is(name, b"ProposeReq") {
         return read_propose_req(line, words, Ballot(n));
     }
@@ -274,7 +311,9 @@ fn read_numbered(line: &[u8], words: Words, name: &[u8], n: u64) -> Message {
 }
 
 // The message from word 1 on.
-pub fn read_message(line: &[u8], words: Words) -> Message {
+pub fn read_message(line: &[u8], words: Words) -> Message
+    ensures { λ r. ⌜ messageEnd r (words .n) ≡ words .n ⌝ }
+{
     let name = word(line, words, 1);
     if is(name, b"SetAcceptAcceptors") {
         return read_list_message(line, words, Rpc::SetAcceptAcceptors);

@@ -1,8 +1,8 @@
 // The table's blocks and the answer area as lines of text: hex digits, the zeros at the end left out.
-use super::put::put_byte;
-use super::put::put_hex;
-use super::put::put_number;
-use super::put::put_text;
+use script_words::put_byte;
+use script_words::put_hex;
+use script_words::put_number;
+use script_words::put_text;
 ghost use mathlib.Core.Path.{_≡_};
 ghost use mathlib.Core.Bool.{true};
 ghost use Prim.Native.Nat.{_≤_};

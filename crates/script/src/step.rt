@@ -1,25 +1,25 @@
 // A line of a script: which step it is, and its bytes in lent buffers.
-use super::bytes::is_bytes;
-use super::bytes::unhex;
-use super::list::is_list;
-use super::list::read_list;
 use super::message::Message;
 use super::message::read_message;
-use super::number::Number;
-use super::number::Sender;
-use super::number::read_address;
-use super::number::read_number;
 use super::places::Places;
 use super::places::no_places;
 use super::places::places_of;
 use super::places::poke_places;
 use super::places::start_places;
-use super::words::Words;
-use super::words::is;
-use super::words::split;
-use super::words::word;
 use messages::Address;
 use messages::Rpc;
+use script_words::Number;
+use script_words::Sender;
+use script_words::Words;
+use script_words::is;
+use script_words::is_bytes;
+use script_words::is_list;
+use script_words::read_address;
+use script_words::read_list;
+use script_words::read_number;
+use script_words::split;
+use script_words::unhex;
+use script_words::word;
 ghost use Prim.Native.Nat.{_≤_};
 ghost use lib.ListN.{length};
 
@@ -45,7 +45,7 @@ pub enum Step {
     Unreadable,
 }
 
-// A step, and how many bytes or numbers stand at the front of each lent buffer.
+// A step, where its key, its value and its other value end in the lent bytes, one behind the other, and how many numbers its list has.
 pub struct Line {
     pub step: Step,
     pub key: usize,
@@ -208,15 +208,9 @@ fn is_passed(line: &[u8]) -> bool {
     line[0] == b'#'
 }
 
-// A line's step, and its bytes at the fronts of the lent buffers.
-pub fn read(
-    line: &[u8],
-    key: &mut [u8],
-    value: &mut [u8],
-    other: &mut [u8],
-    list: &mut [u16],
-) -> Line
-    ensures { λ r. ⌜ (r .key ≤ length (now (key .exit))) × (r .value ≤ length (now (value .exit))) × (r .other ≤ length (now (other .exit))) × (r .list ≤ length (now (list .exit))) ⌝ }
+// A line's step, and its bytes and numbers at the fronts of the lent buffers.
+pub fn read(line: &[u8], bytes: &mut [u8], list: &mut [u16]) -> Line
+    ensures { λ r. ⌜ (r .key ≤ r .value) × (r .value ≤ r .other) × (r .other ≤ length (now (bytes .exit))) × (r .list ≤ length (now (list .exit))) ⌝ }
 {
     if is_passed(line) {
         return Line {
@@ -230,15 +224,15 @@ pub fn read(
     let words = split(line);
     let step = read_step(line, words);
     let places = step_places(step);
-    let in_key = unhex(word(line, words, places.key), key);
-    let in_value = unhex(word(line, words, places.value), value);
-    let in_other = unhex(word(line, words, places.other), other);
-    let in_list = read_list(word(line, words, places.list), list);
+    let key = unhex(word(line, words, places.key), bytes, 0);
+    let value = unhex(word(line, words, places.value), bytes, key);
+    let other = unhex(word(line, words, places.other), bytes, value);
+    let n = read_list(word(line, words, places.list), list);
     Line {
         step,
-        key: in_key,
-        value: in_value,
-        other: in_other,
-        list: in_list,
+        key,
+        value,
+        other,
+        list: n,
     }
 }

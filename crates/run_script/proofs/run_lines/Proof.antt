@@ -9,13 +9,13 @@ use Rattle.run_script.proofs.run_lines.Statement.{statement}
 use Rattle.run_script.proofs.run_lines.Tie as tie
 
 abbrev Inv-loop : tie.InvT-loop
-Inv-loop table₀ area₀ key₀ value₀ other₀ list₀ buf₀ out₀ s₀ line₀ table area key value other list buf out s line =
-    (Held s table area out) × (length table ≡ length table₀) × (length area ≡ length area₀) × (length key ≡ length key₀)
-    × (length value ≡ length value₀) × (length other ≡ length other₀) × (length list ≡ length list₀) × (length buf ≡ length buf₀)
+Inv-loop table₀ area₀ bytes₀ list₀ buf₀ out₀ s₀ line₀ table area bytes list buf out s line =
+    (Held s table area out) × (length table ≡ length table₀) × (length area ≡ length area₀) × (length bytes ≡ length bytes₀)
+    × (length list ≡ length list₀) × (length buf ≡ length buf₀)
     × (length out ≡ length out₀)
 
 abbrev μ-loop : tie.MeasureT-loop
-μ-loop table₀ area₀ key₀ value₀ other₀ list₀ buf₀ out₀ s₀ line₀ table area key value other list buf out s line =
+μ-loop table₀ area₀ bytes₀ list₀ buf₀ out₀ s₀ line₀ table area bytes list buf out s line =
     1099511627776 - line
 
 new-requires : tie.Need-new-requires Inv-loop μ-loop
@@ -51,12 +51,6 @@ same-length-5 c = search needs
 same-length-6 : tie.Need-same-length-6 Inv-loop μ-loop
 same-length-6 c = search needs
 
-same-length-7 : tie.Need-same-length-7 Inv-loop μ-loop
-same-length-7 c = search needs
-
-same-length-8 : tie.Need-same-length-8 Inv-loop μ-loop
-same-length-8 c = search needs
-
 returns : tie.Need-returns Inv-loop μ-loop
 returns c = search needs
 
@@ -65,6 +59,12 @@ loop-less c = search needs
 
 loop-again : tie.Need-loop-again Inv-loop μ-loop
 loop-again c = search needs
+
+same-length-7 : tie.Need-same-length-7 Inv-loop μ-loop
+same-length-7 c = search needs
+
+same-length-8 : tie.Need-same-length-8 Inv-loop μ-loop
+same-length-8 c = search needs
 
 same-length-9 : tie.Need-same-length-9 Inv-loop μ-loop
 same-length-9 c = search needs
@@ -77,18 +77,6 @@ same-length-11 c = search needs
 
 same-length-12 : tie.Need-same-length-12 Inv-loop μ-loop
 same-length-12 c = search needs
-
-same-length-13 : tie.Need-same-length-13 Inv-loop μ-loop
-same-length-13 c = search needs
-
-same-length-14 : tie.Need-same-length-14 Inv-loop μ-loop
-same-length-14 c = search needs
-
-same-length-15 : tie.Need-same-length-15 Inv-loop μ-loop
-same-length-15 c = search needs
-
-same-length-16 : tie.Need-same-length-16 Inv-loop μ-loop
-same-length-16 c = search needs
 
 returns-2 : tie.Need-returns-2 Inv-loop μ-loop
 returns-2 c = search needs
@@ -110,17 +98,13 @@ run-lines-spec =
     same-length-4
     same-length-5
     same-length-6
-    same-length-7
-    same-length-8
     returns
     loop-less
     loop-again
+    same-length-7
+    same-length-8
     same-length-9
     same-length-10
     same-length-11
     same-length-12
-    same-length-13
-    same-length-14
-    same-length-15
-    same-length-16
     returns-2)
