@@ -9,7 +9,8 @@ use Rattle.messages.specs.Message.{Message}
 use Rattle.proposer_rules.specs.Rules.{Outcome}
 use Rattle.acceptor.specs.Contract.{Received}
 use Rattle.proposer.specs.Contract.{Done, Started}
-use Rattle.mirkaspel.specs.Answers.{refusalOf, numbersAfter, Numbered, HandedBack}
+use Rattle.message_numbers.specs.Answers.{refusalOf, numbersAfter}
+use Rattle.mirkaspel.specs.Contract.{Numbered, HandedBack}
 
 one-number : (a b : Answer) (r s : ℕ) → a ≡ b → r ≡ refusalOf a → s ≡ refusalOf b → r ≡ s
 one-number a b r s e f g = f ∙ (ap refusalOf e ∙ sym g)

@@ -1,21 +1,17 @@
 // The parties' operations for callers in C and Rust, which include/mirkaspel.h declares: the same operations, with a message and an answer in
 // numbers. Any numbers and bytes are taken.
-mod answer;
-mod head;
-
-use answer::hand_back;
-use answer::refusal_of;
-pub use head::Head;
-use head::message_in;
-use head::take_head;
+use message_numbers::hand_back;
+use message_numbers::message_in;
+use message_numbers::refusal_of;
+use message_numbers::take_head;
 use messages::Address;
 ghost use mathlib.Core.Path.{_≡_};
 ghost use Rattle.messages.specs.declared.answer.Answer.{Answer};
 ghost use Rattle.messages.specs.Message.{messageOf};
 ghost use Rattle.acceptor.specs.Contract.{Received};
 ghost use Rattle.proposer.specs.Contract.{outcomeOn, tickOn, startOn, Done, Started};
-ghost use Rattle.mirkaspel.specs.Heads.{headIn, messageIn};
-ghost use Rattle.mirkaspel.specs.Answers.{Numbered, HandedBack};
+ghost use Rattle.message_numbers.specs.Heads.{headIn, messageIn};
+ghost use Rattle.mirkaspel.specs.Contract.{Numbered, HandedBack};
 
 // `acceptor::receive`.
 #[no_mangle]

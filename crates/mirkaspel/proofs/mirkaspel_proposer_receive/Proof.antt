@@ -8,9 +8,10 @@ use Rattle.messages.specs.declared.Rpc.{Rpc}
 use Rattle.messages.specs.declared.answer.Answer.{Answer}
 use Rattle.messages.specs.Message.{messageOf}
 use Rattle.proposer.specs.Contract.{outcomeOn, Done}
-use Rattle.mirkaspel.specs.declared.head.Head.{Head}
-use Rattle.mirkaspel.specs.Heads.{headIn, messageIn}
-use Rattle.mirkaspel.specs.Answers.{refusalOf, numbersAfter, HandedBack}
+use Rattle.message_numbers.specs.declared.head.Head.{Head}
+use Rattle.message_numbers.specs.Heads.{headIn, messageIn}
+use Rattle.message_numbers.specs.Answers.{refusalOf, numbersAfter}
+use Rattle.mirkaspel.specs.Contract.{HandedBack}
 use borrow.Author.Needs.{needs}
 use Rattle.mirkaspel.proofs.mirkaspel_proposer_receive.Statement.{statement}
 use Rattle.mirkaspel.proofs.mirkaspel_proposer_receive.Tie as tie
