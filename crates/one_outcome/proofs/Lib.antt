@@ -1,0 +1,4 @@
+pub mod Messages
+pub mod Change
+pub mod Proposer
+pub mod Exported
