@@ -226,6 +226,11 @@ static void run(void) {
 
 /* ---- what is printed ---- */
 
+static const char *const refusal_names[] = {
+    "", "a lent area's size", "a damaged area", "a kind that isn't for this party", "over the limits", "an acceptance in the first phase",
+    "the sender has answered in this phase", "the sender isn't waited for", "an error of another kind", "a promise that is above the request",
+    "the counter is used up", "no room", "a clock that steps back"};
+
 static void print_text(char *out, size_t room, int present, const struct text *t) {
     if (present)
         snprintf(out, room, "'%.*s'", (int)t->length, (const char *)t->bytes);
@@ -291,7 +296,7 @@ static void print_order(const struct order *o) {
     if (o->request == MIRKASPEL_CAS) snprintf(order, sizeof order, "cas %s to %s", value, other);
     else if (o->request == MIRKASPEL_SET) snprintf(order, sizeof order, "set %s", value);
     else snprintf(order, sizeof order, "%s", names[o->request]);
-    if (o->refusal) snprintf(told, sizeof told, "refusal %d", o->refusal);
+    if (o->refusal) snprintf(told, sizeof told, "refusal %d: %s", o->refusal, refusal_names[o->refusal]);
     else if (!o->told) snprintf(told, sizeof told, "nothing");
     else {
         uint64_t r = o->reply.result;
@@ -327,7 +332,7 @@ static int print_plant(void) {
     printf("Refused:");
     int any = 0;
     for (int i = 1; i <= 12; i++)
-        if (refusals[i]) any = printf(" %llu by refusal %d;", (unsigned long long)refusals[i], i);
+        if (refusals[i]) any = printf(" %llu by refusal %d (%s);", (unsigned long long)refusals[i], i, refusal_names[i]);
     printf(any ? " nothing was sent for these, and no byte moved.\n\n" : " nothing.\n\n");
     int sound = 1;
     for (uint64_t valve = 0; valve < 65536; valve++)
