@@ -1,9 +1,9 @@
--- `acceptor::accept_full` meets its contract: the limits come before the missing block.
+-- `acceptor_work::accept_full` meets its contract: the limits come before the missing block.
 -- Assumes nothing.
 use borrow.Author.Tests.{not-true, not-false}
 use Rattle.leaf_fields.specs.Laws.{cond-true, cond-false}
-use Rattle.acceptor.proofs.accept_full.Statement.{statement}
-use Rattle.acceptor.proofs.accept_full.Tie as tie
+use Rattle.acceptor_work.proofs.accept_full.Statement.{statement}
+use Rattle.acceptor_work.proofs.accept_full.Tie as tie
 
 returns : tie.Need-returns
 returns c = search (cond-false, not-true)

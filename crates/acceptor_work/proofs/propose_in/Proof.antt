@@ -1,4 +1,4 @@
--- `acceptor::propose_in` meets its contract: the comparison decides between a rejection that stores nothing and a promise whose block is written anew.
+-- `acceptor_work::propose_in` meets its contract: the comparison decides between a rejection that stores nothing and a promise whose block is written anew.
 -- Assumes nothing.
 use mathlib.Core.Path.{_≡_, sym, ap, _∙_}
 use mathlib.Core.Bool.{Bool, true, false}
@@ -20,13 +20,13 @@ use Rattle.messages.specs.Message.{given}
 use Rattle.messages.specs.Answers.{marked, bytesOf}
 use Rattle.storage_block.specs.Block.{readable, registerOf, registerWith, register, image}
 use Rattle.storage_block.specs.Read.{value-fits}
-use Rattle.acceptor.specs.Rules.{proposed}
-use Rattle.acceptor.specs.Contract.{Worked}
+use Rattle.acceptor_rules.specs.Rules.{proposed}
+use Rattle.acceptor_work.specs.Contract.{Worked}
 use Rattle.storage_block.specs.Stores.{value-back}
 use borrow.Author.Needs.{needs}
 use native.Mathlib.Omega.{arith}
-use Rattle.acceptor.proofs.propose_in.Statement.{statement}
-use Rattle.acceptor.proofs.propose_in.Tie as tie
+use Rattle.acceptor_work.proofs.propose_in.Statement.{statement}
+use Rattle.acceptor_work.proofs.propose_in.Tie as tie
 
 module _ (b key : List ℕ) (from : Address) (ballot seen last : Ballot) (mark : OptionValue) (len : ℕ) (ab : Bool) where
   rejected : seen ≡ registerOf b .seen → last ≡ registerOf b .accepted → mark ≡ marked (registerOf b .value) → len ≡ length (bytesOf (registerOf b .value)) → ab ≡ above ballot seen → ab ≡ false → Worked (proposed ballot (registerWith key b)) from b (Answer.Message from (Rpc.ProposeRes ballot last mark (Res.Err (Error.ProposalRejected seen))) len) b

@@ -1,4 +1,4 @@
--- `acceptor::accept_in` meets its contract: the comparison decides between a rejection that stores nothing and an acceptance.
+-- `acceptor_work::accept_in` meets its contract: the comparison decides between a rejection that stores nothing and an acceptance.
 -- Assumes nothing.
 use mathlib.Core.Path.{_≡_, sym, ap, _∙_}
 use mathlib.Core.Bool.{Bool, true, false}
@@ -14,11 +14,11 @@ use Rattle.messages.specs.declared.answer.Answer.{Answer}
 use Rattle.messages.specs.Ballots.{above}
 use Rattle.messages.specs.Message.{Value}
 use Rattle.storage_block.specs.Block.{registerOf, registerWith, register, image}
-use Rattle.acceptor.specs.Rules.{accepted}
-use Rattle.acceptor.specs.Contract.{Worked}
+use Rattle.acceptor_rules.specs.Rules.{accepted}
+use Rattle.acceptor_work.specs.Contract.{Worked}
 use borrow.Author.Needs.{needs}
-use Rattle.acceptor.proofs.accept_in.Statement.{statement}
-use Rattle.acceptor.proofs.accept_in.Tie as tie
+use Rattle.acceptor_work.proofs.accept_in.Statement.{statement}
+use Rattle.acceptor_work.proofs.accept_in.Tie as tie
 
 module _ (b key : List ℕ) (from : Address) (ballot seen : Ballot) (o : Option Value) (ab : Bool) where
   rejected : seen ≡ registerOf b .seen → ab ≡ above seen ballot → ab ≡ true → Worked (accepted ballot o (registerWith key b)) from b (Answer.Message from (Rpc.AcceptRes ballot (Res.Err (Error.AcceptRejected seen))) 0) b

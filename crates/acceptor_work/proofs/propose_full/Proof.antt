@@ -1,4 +1,4 @@
--- `acceptor::propose_full` meets its contract: the limits, then the missing block, then a rejection with ballot 0.
+-- `acceptor_work::propose_full` meets its contract: the limits, then the missing block, then a rejection with ballot 0.
 -- Assumes nothing.
 use mathlib.Core.Path.{_≡_, sym, _∙_}
 use mathlib.Core.Bool.{Bool, true, false}
@@ -14,11 +14,11 @@ use Rattle.messages.specs.declared.answer.Answer.{Answer}
 use Rattle.messages.specs.declared.answer.Refusal.{Refusal}
 use Rattle.messages.specs.Ballots.{ballot0, above}
 use Rattle.storage_block.specs.Block.{fresh}
-use Rattle.acceptor.specs.Rules.{proposed}
-use Rattle.acceptor.specs.Contract.{fullAnswer}
+use Rattle.acceptor_rules.specs.Rules.{proposed}
+use Rattle.acceptor_work.specs.Contract.{fullAnswer}
 use borrow.Author.Needs.{needs}
-use Rattle.acceptor.proofs.propose_full.Statement.{statement}
-use Rattle.acceptor.proofs.propose_full.Tie as tie
+use Rattle.acceptor_work.proofs.propose_full.Statement.{statement}
+use Rattle.acceptor_work.proofs.propose_full.Tie as tie
 
 module _ (from : Address) (ballot : Ballot) (fits : Bool) where
   over-limit : fits ≡ false → Answer.Refused Refusal.OverLimit ≡ fullAnswer (proposed ballot (fresh [])) fits from
