@@ -47,7 +47,7 @@ pub fn propose_in(
             value_len: len,
         };
     }
-    storage_block::write(b, key, ballot, last, mark, &area[0..len]);
+    storage_write::write(b, key, ballot, last, mark, &area[0..len]);
     Answer::Message {
         to: from,
         rpc: Rpc::ProposeRes {
@@ -80,7 +80,7 @@ pub fn accept_in(
             value_len: 0,
         };
     }
-    storage_block::write(b, key, ballot, ballot, value, bytes);
+    storage_write::write(b, key, ballot, ballot, value, bytes);
     Answer::Message {
         to: from,
         rpc: Rpc::AcceptRes(ballot, Res::Ok),

@@ -1,4 +1,4 @@
--- `storage_block::seal` meets its contract: two fields stored behind 504 bytes are those bytes and the fields.
+-- `storage_write::seal` meets its contract: two fields stored behind 504 bytes are those bytes and the fields.
 -- Assumes nothing.
 use mathlib.Core.Path.{_≡_, ap, _∙_}
 use mathlib.Core.List.{List, [], _++_, append-assoc, append-nil}
@@ -8,11 +8,11 @@ use lib.Seq.{sets, sets-eq, length-sets, take-at}
 use Rattle.leaf_fields.specs.Fields.{toLe, part}
 use Rattle.leaf_fields.specs.Laws.{length-toLe}
 use Rattle.leaf_sums.specs.Sums.{plainSum, placedSum}
 use Rattle.storage_block.specs.Block.{sealed}
 use borrow.Author.Needs.{needs}
 use native.Mathlib.Omega.{arith}
-use Rattle.storage_block.proofs.seal.Statement.{statement}
-use Rattle.storage_block.proofs.seal.Tie as tie
+use Rattle.storage_write.proofs.seal.Statement.{statement}
+use Rattle.storage_write.proofs.seal.Tie as tie
 
 -- two runs of four bytes, stored one after the other up to the end
 two-fields : (b vs ws : List ℕ) → length b ≡ 512 → length vs ≡ 4 → length ws ≡ 4 → sets (sets b 504 vs) 508 ws ≡ take 504 b ++ (vs ++ ws)

@@ -1,4 +1,4 @@
--- `storage_block::write` meets its contract: the front, the key and the value, stored into zeros one after the other, are the body, which is then sealed.
+-- `storage_write::write` meets its contract: the front, the key and the value, stored into zeros one after the other, are the body, which is then sealed.
 -- Assumes nothing.
 use mathlib.Core.Path.{_≡_, refl, ap, _∙_}
 use mathlib.Core.List.{List, _++_, append-assoc}
@@ -12,12 +12,12 @@ use Rattle.messages.specs.Answers.{bytesOf}
 use Rattle.messages.specs.declared.Ballot.{Ballot}
 use Rattle.messages.specs.declared.OptionValue.{OptionValue}
 use Rattle.leaf_fields.specs.Fields.{toLe}
 use Rattle.storage_block.specs.Block.{front, padded, body, sealed, image, register}
 use Rattle.storage_block.specs.Stores.{sets-left, sets-right, sets-zeros}
 use borrow.Author.Needs.{needs}
 use native.Mathlib.Omega.{arith}
-use Rattle.storage_block.proofs.write.Statement.{statement}
-use Rattle.storage_block.proofs.write.Tie as tie
+use Rattle.storage_write.proofs.write.Statement.{statement}
+use Rattle.storage_write.proofs.write.Tie as tie
 
 lent-zeros : (b n : List ℕ) → length b ≡ 512 → n ≡ replicate (length b) 0 → take (24 - 0) (drop 0 n) ≡ replicate 24 0
 lent-zeros b n l e = rw (e, l)

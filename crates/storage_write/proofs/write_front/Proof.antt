@@ -1,4 +1,4 @@
--- `storage_block::write_front` meets its contract: stores into 24 zeros compute to the front.
+-- `storage_write::write_front` meets its contract: stores into 24 zeros compute to the front.
 -- Assumes nothing.
 use mathlib.Core.Path.{_≡_, ap}
 use mathlib.Core.List.{List}
@@ -8,11 +8,11 @@ use lib.Seq.{sets}
 use Rattle.leaf_fields.specs.Fields.{toLe}
 use Rattle.messages.specs.declared.Ballot.{Ballot}
 use Rattle.messages.specs.declared.OptionValue.{OptionValue}
 use Rattle.storage_block.specs.Block.{front, markByte}
 use borrow.Author.Needs.{needs}
 use native.Mathlib.Omega.{arith}
-use Rattle.storage_block.proofs.write_front.Statement.{statement}
-use Rattle.storage_block.proofs.write_front.Tie as tie
+use Rattle.storage_write.proofs.write_front.Statement.{statement}
+use Rattle.storage_write.proofs.write_front.Tie as tie
 
 long : (b : List ℕ) → b ≡ replicate 24 0 → length b ≡ 24
 long b e = ap length e
