@@ -10,16 +10,13 @@ use Rattle.messages.specs.declared.Address.{Address}
 use Rattle.messages.specs.declared.answer.Answer.{Answer}
 use Rattle.messages.specs.declared.answer.Refusal.{Refusal}
 use Rattle.messages.specs.Message.{Message}
-use Rattle.messages.specs.Limits.{valueMost, withinLimits}
+use Rattle.messages.specs.Limits.{withinLimits}
 use Rattle.messages.specs.Refusals.{Test, test, firstDue}
 use Rattle.messages.specs.Answers.{one, said, answerOf, writtenIn}
 use Rattle.storage_block.specs.Block.{image}
 use Rattle.storage_search.specs.Table.{isSized, Lent, withBlock, slots}
-use Rattle.acceptor.specs.Rules.{Work, Store, keep, put, Outcome, unless, receive}
-
--- the acceptor's answer area holds a value
-abbrev pub answerBytes : ℕ
-answerBytes = valueMost
+use Rattle.acceptor_rules.specs.Rules.{Work, Store, keep, put, Outcome, unless, receive}
+use Rattle.acceptor_work.specs.Contract.{answerBytes}
 
 -- refusal 1, before those of the table
 abbrev pub sizeTest : List ℕ → ℕ → List ℕ → List Test
@@ -48,17 +45,7 @@ pub record Ready (t : List ℕ) (n : ℕ) (from : Address) (m : Message) (fits :
   pub lent : Lent t n
   pub limits : fits ≡ withinLimits from m
 
--- a work done on one block, which holds the key or is free
-pub record Worked (w : Work) (from : Address) (b : List ℕ) (r : Answer) (b′ : List ℕ) : Type 0 where
-  pub answer : r ≡ answerOf (one from (w .answer))
-  pub block : b′ ≡ cond (w .stores) (image (w .next)) b
-
 -- a work done on block i of the table, if the message is within the limits
 pub record Placed (w : Work) (fits : Bool) (from : Address) (t : List ℕ) (i : ℕ) (r : Answer) (t′ : List ℕ) : Type 0 where
   pub answer : r ≡ cond fits (answerOf (one from (w .answer))) (Answer.Refused Refusal.OverLimit)
   pub table : t′ ≡ cond (fits && w .stores) (withBlock t i (image (w .next))) t
-
--- the answer where no block holds the key and none is free
-abbrev pub fullAnswer : Work → Bool → Address → Answer
-fullAnswer w fits from =
-    cond fits (cond (w .stores) (Answer.Refused Refusal.NoRoom) (answerOf (one from (w .answer)))) (Answer.Refused Refusal.OverLimit)

@@ -25,7 +25,7 @@ use Rattle.storage_search.specs.Table.{noneBad, blockAt, slots, whereIs, isTwic
 use Rattle.storage_search.specs.Blocks.{length-block, length-with, block-other}
 use Rattle.storage_search.specs.Laws.{slot-at, where-at, where-free, held-at}
 use Rattle.storage_search.specs.Keys.{place-known, place-free, room-in, readable-in}
-use Rattle.acceptor.specs.Rules.{proposal, acceptance, Job, jobOf, Store, keep, put, outcome, workOn, keyTwice, foreign, noBlock, putAt, perform, unless, receive}
+use Rattle.acceptor_rules.specs.Rules.{proposal, acceptance, Job, jobOf, Store, keep, put, outcome, workOn, keyTwice, foreign, noBlock, putAt, perform, unless, receive}
 use Rattle.acceptor.specs.Contract.{outcomeOn, stored}
 use Rattle.acceptor.specs.Stores.{Takes, known, new, Stored, StoredOn, stored-on}
 

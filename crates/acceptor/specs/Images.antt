@@ -26,8 +26,9 @@ use Rattle.storage_search.specs.declared.Found.{Found}
 use Rattle.storage_search.specs.Table.{isSized, noneBad, isBad, holds, isFree, count, firstFrom, foundBy, blockAt, withBlock, slots, whereIs, isTwice, registerBy, Lent}
 use Rattle.storage_search.specs.Blocks.{sized-of}
 use Rattle.storage_search.specs.Laws.{slots-with, where-at, where-free, count-none}
-use Rattle.acceptor.specs.Rules.{proposal, acceptance, Job, jobOf, Store, keep, put, Outcome, workOn, keyTwice, foreign, noBlock, perform, unless, receive}
-use Rattle.acceptor.specs.Contract.{answerBytes, outcomeOn, stored}
+use Rattle.acceptor_rules.specs.Rules.{proposal, acceptance, Job, jobOf, Store, keep, put, Outcome, workOn, keyTwice, foreign, noBlock, perform, unless, receive}
+use Rattle.acceptor_work.specs.Contract.{answerBytes}
+use Rattle.acceptor.specs.Contract.{outcomeOn, stored}
 use Rattle.acceptor.specs.Stores.{Takes, known, new, Stored, StoredOn, stored-by, stored-on}
 use Rattle.acceptor.specs.Dependence.{registerFor, none-not-some, stored-key, length-in, place-in, known-register, stored-short, length-kept}
 

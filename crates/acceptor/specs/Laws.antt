@@ -11,8 +11,9 @@ use Rattle.messages.specs.declared.answer.Refusal.{Refusal}
 use Rattle.storage_block.specs.Block.{image}
 use Rattle.storage_search.specs.Table.{blockAt, withBlock}
 use Rattle.storage_search.specs.Blocks.{put-mid, same-block}
-use Rattle.acceptor.specs.Rules.{Work}
-use Rattle.acceptor.specs.Contract.{Worked, Placed}
+use Rattle.acceptor_rules.specs.Rules.{Work}
+use Rattle.acceptor_work.specs.Contract.{Worked}
+use Rattle.acceptor.specs.Contract.{Placed}
 
 -- ---- a block that is lent on out of a table
 

@@ -1,4 +1,3 @@
-pub mod Rules
 pub mod Contract
 pub mod Laws
 pub mod Outcomes

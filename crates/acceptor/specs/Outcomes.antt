@@ -28,8 +28,9 @@ use Rattle.storage_search.specs.declared.Found.{Found}
 use Rattle.storage_search.specs.Table.{isSized, noneBad, blockAt, withBlock, slots, whereIs, isTwice, registerIn, registerBy, Lent}
 use Rattle.storage_search.specs.Blocks.{length-block}
 use Rattle.storage_search.specs.Keys.{place-known, place-free, room-in, readable-in, register-known, register-new}
-use Rattle.acceptor.specs.Rules.{Work, proposed, accepted, Job, proposal, acceptance, jobOf, keep, put, Outcome, outcome, workOn, unless, receive}
-use Rattle.acceptor.specs.Contract.{outcomeOn, stored, Received, Ready, Placed, fullAnswer}
+use Rattle.acceptor_rules.specs.Rules.{Work, proposed, accepted, Job, proposal, acceptance, jobOf, keep, put, Outcome, outcome, workOn, unless, receive}
+use Rattle.acceptor_work.specs.Contract.{fullAnswer}
+use Rattle.acceptor.specs.Contract.{outcomeOn, stored, Received, Ready, Placed}
 
 -- ---- the outcome, by where the key is
 

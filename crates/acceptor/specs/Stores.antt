@@ -18,8 +18,9 @@ use Rattle.messages.specs.Answers.{one}
 use Rattle.storage_block.specs.Block.{Slot, Register}
 use Rattle.storage_search.specs.declared.Found.{Found}
 use Rattle.storage_search.specs.Table.{isSized, noneBad, whereIs, isTwice, isFull, slots, Lent}
-use Rattle.acceptor.specs.Rules.{Job, jobOf, keep, put, outcome, workOn, keyTwice, foreign, noBlock, putAt, perform, unless, receive}
-use Rattle.acceptor.specs.Contract.{answerBytes, outcomeOn}
+use Rattle.acceptor_rules.specs.Rules.{Job, jobOf, keep, put, outcome, workOn, keyTwice, foreign, noBlock, putAt, perform, unless, receive}
+use Rattle.acceptor_work.specs.Contract.{answerBytes}
+use Rattle.acceptor.specs.Contract.{outcomeOn}
 
 -- block i is the one that a key takes: it holds the key, or it is the lowest free one and no block holds the key
 pub data Takes (k : Key) (l : List Slot) (i : ℕ) : Type 0 where

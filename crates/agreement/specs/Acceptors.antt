@@ -14,7 +14,7 @@ use Rattle.messages.specs.declared.Ballot.{Ballot}
 use Rattle.messages.specs.Ballots.{above, notBelow}
 use Rattle.messages.specs.Message.{Key, Value, Result, Message}
 use Rattle.storage_block.specs.Block.{Slot, used, Register, register}
-use Rattle.acceptor.specs.Rules.{Outcome, receive}
+use Rattle.acceptor_rules.specs.Rules.{Outcome, receive}
 use Rattle.acceptor.specs.Stores.{Takes}
 use Rattle.acceptor.specs.Dependence.{registerFor, key-for}
 use Rattle.acceptor.specs.Images.{storedIn}

@@ -14,8 +14,8 @@ use Rattle.messages.specs.Message.{Key, Value, Request, Failure, Result, Reply,
 use Rattle.messages.specs.Limits.{withinLimits}
 use Rattle.storage_block.specs.Block.{Slot, free}
 use Rattle.storage_search.specs.Table.{noneBad, count, firstFrom, whereIs}
-use Rattle.acceptor.specs.Rules as Acceptor
-use Rattle.acceptor.specs.Rules.{workOn}
+use Rattle.acceptor_rules.specs.Rules as Acceptor
+use Rattle.acceptor_rules.specs.Rules.{workOn}
 use Rattle.acceptor.specs.Images.{storedIn}
 use Rattle.proposer_rules.specs.Rules as Proposing
 use Rattle.proposer_rules.specs.State.{Proposer, Pending, Propose, listed}

@@ -13,8 +13,8 @@ use Rattle.messages.specs.Ballots.{above}
 use Rattle.messages.specs.Message.{Key, Value, Request, Failure, Reply, Message}
 use Rattle.messages.specs.Answers.{Row, Told, nothing, one, each, timeouts, refused}
 use Rattle.storage_block.specs.Block.{Slot, free}
-use Rattle.acceptor.specs.Rules as Acceptor
-use Rattle.acceptor.specs.Rules.{Store, keep, put}
+use Rattle.acceptor_rules.specs.Rules as Acceptor
+use Rattle.acceptor_rules.specs.Rules.{Store, keep, put}
 use Rattle.acceptor.specs.Images.{storedIn}
 use Rattle.proposer_rules.specs.Rules as Proposing
 use Rattle.proposer_rules.specs.State.{Proposer, Pending, keyOf}

@@ -24,7 +24,7 @@ use Rattle.storage_block.specs.Block.{Slot, free, used, Register, register, fre
 use Rattle.storage_search.specs.declared.Found.{Found}
 use Rattle.storage_search.specs.Table.{noneBad, holds, isFree, count, firstFrom, foundBy, whereIs, isTwice, isFull, registerIn, registerBy}
 use Rattle.storage_search.specs.Laws.{first-in, count-none, where-at, where-free, held-at}
-use Rattle.acceptor.specs.Rules.{Job, proposal, acceptance, jobOf, Outcome, keep, put, outcome, workOn, keyTwice, foreign, noBlock, putAt, perform, unless, receive}
+use Rattle.acceptor_rules.specs.Rules.{Job, proposal, acceptance, jobOf, Outcome, keep, put, outcome, workOn, keyTwice, foreign, noBlock, putAt, perform, unless, receive}
 use Rattle.acceptor.specs.Stores.{Takes, known, new}
 use Rattle.acceptor.specs.Dependence.{registerFor, none-not-some}
 use Rattle.agreement.specs.Members.{In}

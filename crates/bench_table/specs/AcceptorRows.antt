@@ -14,7 +14,7 @@ use Rattle.messages.specs.Limits.{noneZero, listFits, withinLimits}
 use Rattle.messages.specs.Answers.{one}
 use Rattle.storage_block.specs.Block.{register, registerOf, headGood, restZero, sumsGood, good, stateOf, slotOf, front, padded, body, sealed, image}
 use Rattle.storage_search.specs.Table.{isSized, blockAt, withBlock, slotsFrom, slots, noneBad, count, firstFrom, whereIs}
-use Rattle.acceptor.specs.Rules.{Outcome, outcome, keep, put, workOn, receive}
+use Rattle.acceptor_rules.specs.Rules.{Outcome, outcome, keep, put, workOn, receive}
 use Rattle.acceptor.specs.Contract.{outcomeOn, stored}
 
 -- ---- the bench

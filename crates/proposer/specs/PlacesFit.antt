@@ -13,9 +13,9 @@ use Rattle.messages.specs.declared.Ballot.{Ballot}
 use Rattle.proposer_rules.specs.State.{Pending, Proposer, listed}
 use Rattle.proposer_rules.specs.Rules.{isBallot, replaceAt, takePlace, late, inTime}
 use Rattle.proposer_place.specs.Area.{distinct, allListed, promiseFits, sizesFit, answersFit, pendingFits, placesFit, ballotsOf}
-use Rattle.proposer_area.specs.Good.{noneListed}
+use Rattle.proposer_image.specs.Good.{noneListed}
 use Rattle.proposer_works.specs.Answerers.{or-false}
-use Rattle.proposer_area.specs.Lists.{all-listed-append, distinct-append}
+use Rattle.proposer_image.specs.Lists.{all-listed-append, distinct-append}
 
 -- ---- lists of numbers
 

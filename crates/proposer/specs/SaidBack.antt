@@ -25,7 +25,7 @@ use Rattle.messages.specs.Fit.{short-value}
 use Rattle.proposer_rules.specs.State.{Phase, Propose, Accept, Pending, Proposer, keyOf, withNo, withYes}
 use Rattle.proposer_rules.specs.Rules.{Outcome, outcome, unless, moved, toEach, toClient, proposals, applied, replyOf, nextBallot, reached, raised, asked, withLists, promisedBy, toAccept, pendingAt, replaceAt, takePlace, messageTests, promiseTests, acceptanceTests, requestTests, rejected, granted, promiseWork, inFirst, onPromise, turnedDown, taken, firstPhase, acceptanceWork, onAcceptance, foreign, work, receive, clockBack, late, inTime, insert, lateOnes, rowsOf, allTimeouts, tick}
 use Rattle.proposer_place.specs.Area.{firstValue, secondValue, readArea, isImage}
-use Rattle.proposer_area.specs.PlacesLaws.{length-late}
+use Rattle.proposer_clock.specs.LateLaws.{length-late}
 use Rattle.proposer_place.specs.AreaLaws.{Short, Lawful, LawfulPlaces}
 use Rattle.proposer_place.specs.AreaRead.{short-request}
 use Rattle.proposer_place.specs.PlaceLaws.{lawful-yes}

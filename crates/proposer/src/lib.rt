@@ -65,7 +65,7 @@ pub fn receive(
     if answer.len() != ROWS_AT + ROW * places {
         return Answer::Refused(Refusal::AreaSize);
     }
-    if !proposer_area::is_image(area, places) {
+    if !proposer_image::is_image(area, places) {
         return Answer::Refused(Refusal::Damaged);
     }
     let fits = messages::fits(from, rpc, key, value, other, list);
@@ -172,7 +172,7 @@ pub fn tick(area: &mut [u8], places: usize, t: u64, answer: &mut [u8]) -> Answer
     if answer.len() != ROWS_AT + ROW * places {
         return Answer::Refused(Refusal::AreaSize);
     }
-    if !proposer_area::is_image(area, places) {
+    if !proposer_image::is_image(area, places) {
         return Answer::Refused(Refusal::Damaged);
     }
     proposer_clock::tick(area, places, t, answer)

@@ -1,11 +1,6 @@
 pub mod Places
-pub mod Good
 pub mod PlacesLaws
 pub mod Turns
-pub mod Lists
-pub mod Taken
-pub mod GoodLaws
-pub mod Again
 pub mod Held
 pub mod HeldLaws
 pub mod PlaceLent

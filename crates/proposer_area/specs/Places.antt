@@ -1,14 +1,13 @@
--- The places of a lent area: where each stands, and which of them a request, a free place or the next timeout is.
+-- The places of a lent area: where each stands, and which of them a request or a free place is.
 -- Assumes nothing.
-use mathlib.Core.Bool.{Bool, true, not, cond, _&&_}
+use mathlib.Core.Bool.{cond}
 use mathlib.Core.List.{List, [], _∷_}
 use mathlib.Core.Option.{Option, none, some}
 use Prim.Native.Nat.{ℕ, suc, _+_, _*_}
 use Rattle.leaf_fields.specs.Fields.{part, byte}
 use Rattle.messages.specs.declared.Ballot.{Ballot}
-use Rattle.messages.specs.Ballots.{above}
-use Rattle.proposer_rules.specs.State.{Pending, Proposer}
-use Rattle.proposer_rules.specs.Rules.{isBallot, late}
+use Rattle.proposer_rules.specs.State.{Pending}
+use Rattle.proposer_rules.specs.Rules.{isBallot}
 use Rattle.proposer_place.specs.Area.{counterAt, timeoutAt, acceptCountAt, proposeCountAt, headerBytes, placeBytes, longAt}
 use Rattle.proposer_area.specs.declared.Header.{Header}
 
@@ -37,15 +36,3 @@ unfoldable pub freeOf : List (Option Pending) → ℕ
 freeOf [] = 0
 freeOf (none ∷ l) = 0
 freeOf (some p ∷ l) = suc (freeOf l)
-
--- no late request has a ballot below b
-unfoldable pub noneBelow : Proposer → ℕ → Ballot → List (Option Pending) → Bool
-noneBelow s t b [] = true
-noneBelow s t b (none ∷ l) = noneBelow s t b l
-noneBelow s t b (some q ∷ l) = not (late s t q && above b (q .ballot)) && noneBelow s t b l
-
--- the late request with the lowest ballot
-unfoldable pub lateOf : Proposer → ℕ → List (Option Pending) → ℕ
-lateOf s t [] = 0
-lateOf s t (none ∷ l) = suc (lateOf s t l)
-lateOf s t (some p ∷ l) = cond (late s t p && noneBelow s t (p .ballot) l) 0 (suc (lateOf s t l))

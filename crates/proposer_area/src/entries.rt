@@ -2,11 +2,8 @@
 ghost use mathlib.Core.Path.{_≡_};
 ghost use Prim.Native.Nat.{_+_, _*_, _≤_};
 ghost use lib.ListN.{length};
-ghost use Rattle.messages.specs.Limits.{noneZero};
 ghost use Rattle.messages.specs.Answers.{entries};
 ghost use Rattle.proposer_rules.specs.State.{listed};
-ghost use Rattle.proposer_place.specs.Area.{distinct, allListed};
-ghost use Rattle.proposer_area.specs.Good.{noneListed};
 
 // Whether an address is one of the n entries at `at`.
 pub fn listed(s: &[u8], at: usize, n: usize, a: u16) -> bool
@@ -21,70 +18,4 @@ pub fn listed(s: &[u8], at: usize, n: usize, a: u16) -> bool
         i += 1;
     }
     false
-}
-
-// Whether no entry is 0.
-pub fn none_zero(s: &[u8], at: usize, n: usize) -> bool
-    requires { ⌜ at + 2 * n ≤ length (now s) ⌝ }
-    ensures { λ r. ⌜ r ≡ noneZero (entries (now (s .entry)) at n) ⌝ }
-{
-    let mut i = 0;
-    while i < n {
-        if leaf_fields::get16(s, at + 2 * i) == 0 {
-            return false;
-        }
-        i += 1;
-    }
-    true
-}
-
-// Whether each of the n entries at `at` is one of the m at `other`.
-pub fn all_listed(s: &[u8], at: usize, n: usize, other: usize, m: usize) -> bool
-    requires { ⌜ (at + 2 * n ≤ length (now s)) × (other + 2 * m ≤ length (now s)) ⌝ }
-    ensures { λ r. ⌜ r ≡ allListed (entries (now (s .entry)) at n) (entries (now (s .entry)) other m) ⌝ }
-{
-    let mut i = 0;
-    while i < n {
-        if !listed(s, other, m, leaf_fields::get16(s, at + 2 * i)) {
-            return false;
-        }
-        i += 1;
-    }
-    true
-}
-
-// Whether none of the n entries at `at` is one of the m at `other`.
-pub fn none_listed(s: &[u8], at: usize, n: usize, other: usize, m: usize) -> bool
-    requires { ⌜ (at + 2 * n ≤ length (now s)) × (other + 2 * m ≤ length (now s)) ⌝ }
-    ensures { λ r. ⌜ r ≡ noneListed (entries (now (s .entry)) at n) (entries (now (s .entry)) other m) ⌝ }
-{
-    let mut i = 0;
-    while i < n {
-        if listed(s, other, m, leaf_fields::get16(s, at + 2 * i)) {
-            return false;
-        }
-        i += 1;
-    }
-    true
-}
-
-// Whether no entry stands twice.
-pub fn distinct(s: &[u8], at: usize, n: usize) -> bool
-    requires { ⌜ at + 2 * n ≤ length (now s) ⌝ }
-    ensures { λ r. ⌜ r ≡ distinct (entries (now (s .entry)) at n) ⌝ }
-{
-    let mut i = 0;
-    while i < n {
-        let next = i + 1;
-        if listed(
-            s,
-            at + 2 * next,
-            n - next,
-            leaf_fields::get16(s, at + 2 * i),
-        ) {
-            return false;
-        }
-        i = next;
-    }
-    true
 }

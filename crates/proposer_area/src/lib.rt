@@ -1,13 +1,9 @@
-// The proposer's lent area: its header, whether it is the image of a state (refusal 2), and the searches over its places.
-mod clock;
+// The proposer's lent area: its header, its places, and the searches over them.
 mod entries;
-mod image;
 mod places;
 mod search;
 
-pub use clock::clock_back;
-pub use clock::lowest_late;
-pub use image::is_image;
+pub use entries::listed;
 use messages::PENDING_MOST;
 pub use places::again;
 pub use places::drop_place;
@@ -21,6 +17,7 @@ pub use places::second_phase;
 pub use places::take_place;
 use proposer_place::PLACE;
 pub use search::find;
+pub use search::held;
 pub use search::lowest_free;
 ghost use mathlib.Core.Path.{_≡_};
 ghost use Prim.Native.Nat.{_≤_, _<_};

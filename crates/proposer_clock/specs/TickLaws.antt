@@ -26,8 +26,9 @@ use Rattle.proposer_place.specs.AreaRead.{length-read}
 use Rattle.proposer_place.specs.Front.{frontOf}
 use Rattle.proposer_place.specs.PlaceLaws.{lawful-place-set}
 use Rattle.proposer_place.specs.Rows.{sets-join}
-use Rattle.proposer_area.specs.Places.{placeAt, placeIn, noneBelow, lateOf}
-use Rattle.proposer_area.specs.PlacesLaws.{LateAt, late-none, late-some, length-late}
+use Rattle.proposer_area.specs.Places.{placeAt, placeIn}
+use Rattle.proposer_clock.specs.Late.{noneBelow, lateOf}
+use Rattle.proposer_clock.specs.LateLaws.{LateAt, late-none, late-some, length-late}
 use Rattle.proposer_area.specs.Held.{Held}
 use Rattle.proposer_area.specs.HeldLaws.{size-of, state-held, place-image, lawful-at, with-place}
 use Rattle.proposer_works.specs.Works.{answerBytes, Worked}

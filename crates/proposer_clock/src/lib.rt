@@ -1,4 +1,8 @@
 // A tick: requests over time, in ascending ballot order.
+mod clock;
+
+use clock::clock_back;
+use clock::lowest_late;
 use messages::Address;
 use messages::Answer;
 use messages::Refusal;
@@ -34,7 +38,7 @@ fn expire(area: &mut [u8], places: usize, t: u64, answer: &mut [u8]) -> usize
     let h = proposer_area::take_header(area);
     let mut k = 0;
     while k < places {
-        let i = proposer_area::lowest_late(area, places, t, h.timeout);
+        let i = lowest_late(area, places, t, h.timeout);
         if i == places {
             return k;
         }
@@ -51,7 +55,7 @@ pub fn tick(area: &mut [u8], places: usize, t: u64, answer: &mut [u8]) -> Answer
     requires { ⌜ (Held (now area) places) × (length (now answer) ≡ answerBytes places) ⌝ }
     ensures { λ r. ⌜ Worked (now (answer .entry)) (Rules.tick (readArea (now (area .entry)) places) t) r (now (area .exit)) (now (answer .exit)) ⌝ }
 {
-    if proposer_area::clock_back(area, places, t) {
+    if clock_back(area, places, t) {
         return Answer::Refused(Refusal::ClockBack);
     }
     let rows = expire(area, places, t, answer);

@@ -206,7 +206,7 @@ fn write_register(
     if !messages::register_fits(key, value, bytes) {
         return Done::Refused(Refusal::OverLimit);
     }
-    storage_block::write(b, key, seen, accepted, value, bytes);
+    storage_write::write(b, key, seen, accepted, value, bytes);
     Done::Stored
 }
 

@@ -15,8 +15,9 @@ use Rattle.messages.specs.Message.{Value}
 use Rattle.storage_block.specs.Block.{registerWith}
 use Rattle.storage_search.specs.Table.{blockAt}
 use Rattle.storage_search.specs.Blocks.{lent-block, lent-length}
-use Rattle.acceptor.specs.Rules.{accepted}
-use Rattle.acceptor.specs.Contract.{Worked, Placed}
+use Rattle.acceptor_rules.specs.Rules.{accepted}
+use Rattle.acceptor_work.specs.Contract.{Worked}
+use Rattle.acceptor.specs.Contract.{Placed}
 use Rattle.acceptor.specs.Laws.{refused-placed, work-placed}
 use borrow.Author.Needs.{needs}
 use Rattle.acceptor.proofs.accept_at.Statement.{statement}

@@ -14,7 +14,7 @@ use Rattle.messages.specs.declared.answer.Refusal.{Refusal}
 use Rattle.messages.specs.Message.{Message, given, messageOf}
 use Rattle.messages.specs.Limits.{withinLimits}
 use Rattle.storage_search.specs.Table.{isSized, noneBad, slots}
-use Rattle.acceptor.specs.Rules.{jobOf}
+use Rattle.acceptor_rules.specs.Rules.{jobOf}
 use Rattle.acceptor.specs.Contract.{Received, Ready}
 use Rattle.acceptor.specs.Outcomes.{size-refused, area-refused, damage-refused, kind-refused}
 use borrow.Author.Needs.{needs}

@@ -1,4 +1,4 @@
--- `proposer::change::cas_failed` meets its contract: only a `Cas` compares.
+-- `proposer_change::cas_failed` meets its contract: only a `Cas` compares.
 -- Assumes nothing.
 use Rattle.proposer_change.specs.Change.{cas-fails}
 use borrow.Author.Needs.{needs}

@@ -1,4 +1,4 @@
--- `proposer::change::new_mark` meets its contract, request by request.
+-- `proposer_change::new_mark` meets its contract, request by request.
 -- Assumes nothing.
 use Rattle.proposer_change.specs.Change.{get-mark, cas-new-mark, cas-old-mark}
 use borrow.Author.Needs.{needs}

@@ -1,4 +1,4 @@
--- `proposer::change::new_value` meets its contract, request by request.
+-- `proposer_change::new_value` meets its contract, request by request.
 -- Assumes nothing.
 use Rattle.proposer_change.specs.Change.{get-value, cas-new-value, cas-old-value}
 use borrow.Author.Needs.{needs}

@@ -1,4 +1,4 @@
--- `proposer::change::same_value` meets its contract: by the marks, then by the bytes.
+-- `proposer_change::same_value` meets its contract: by the marks, then by the bytes.
 -- Assumes nothing.
 use mathlib.Core.Path.{_≡_}
 use mathlib.Core.Bool.{Bool}

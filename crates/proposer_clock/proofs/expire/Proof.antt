@@ -16,7 +16,8 @@ use Rattle.proposer_place.specs.declared.front.Front.{Front}
 use Rattle.proposer_place.specs.Front.{frontOf}
 use Rattle.proposer_place.specs.Area.{headerBytes, placeBytes, placeImage, areaImage, readPending, readPlaces, readArea, sized}
 use Rattle.proposer_area.specs.declared.Header.{Header}
-use Rattle.proposer_area.specs.Places.{headerIn, placeAt, placeIn, lateOf}
+use Rattle.proposer_area.specs.Places.{headerIn, placeAt, placeIn}
+use Rattle.proposer_clock.specs.Late.{lateOf}
 use Rattle.proposer_area.specs.Held.{Held}
 use Rattle.proposer_area.specs.HeldLaws.{size-of, place-room}
 use Rattle.proposer_clock.specs.TickLaws.{Expiring, Expired, expire-begins, expire-ends, expire-full, expire-goes-on}
