@@ -8,7 +8,7 @@ use Prim.Native.Nat.{ℕ, _+_, _*_, _≤_, _<_}
 use native.Mathlib.Omega.{arith}
 use lib.Dec.{eqb}
 use lib.ListN.{length, getD, length-append, length-replicate}
-use Rattle.leaf_fields.specs.Fields.{allZero}
+use Rattle.leaf_fields.specs.Fields.{allZero, padded}
 use Rattle.leaf_fields.specs.Laws.{length-toLe, and-true}
 use Rattle.messages.specs.declared.Address.{Address}
 use Rattle.messages.specs.declared.answer.Refusal.{Refusal}
@@ -18,7 +18,7 @@ use Rattle.messages.specs.Fit.{short-key, register-key, register-value}
 use Rattle.messages.specs.Refusals.{test, firstDue}
 use Rattle.messages.specs.Answers.{Told, nothing, one, each, timeouts, refused, bytesOf}
 use Rattle.storage_block.specs.declared.BlockState.{BlockState}
-use Rattle.storage_block.specs.Block.{Slot, free, used, Register, blockBytes, registerOf, good, stateOf, slotBy, slotOf, front, padded, body, sealed, image}
+use Rattle.storage_block.specs.Block.{Slot, free, used, Register, blockBytes, registerOf, good, stateOf, slotBy, slotOf, front, body, sealed, image}
 use Rattle.storage_block.specs.Read.{value-fits}
 use Rattle.storage_search.specs.declared.Found.{Found}
 use Rattle.storage_search.specs.Table.{noneBad, blockAt, slots, whereIs, isTwice, isFull, registerBy, Lent}

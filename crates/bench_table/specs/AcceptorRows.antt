@@ -5,14 +5,14 @@ use mathlib.Core.List.{List, [], _∷_}
 use mathlib.Core.Option.{Option, none, some}
 use Prim.Native.Nat.{ℕ}
 use lib.ListN.{replicate}
-use Rattle.leaf_fields.specs.Fields.{fromLe, toLe, allZero, same}
+use Rattle.leaf_fields.specs.Fields.{fromLe, toLe, allZero, same, padded}
 use Rattle.leaf_sums.specs.Sums.{plainSum, placedSum}
 use Rattle.messages.specs.declared.Address.{Address}
 use Rattle.messages.specs.declared.Ballot.{Ballot}
 use Rattle.messages.specs.Message.{Key, Value, Failure, Result, Message}
 use Rattle.messages.specs.Limits.{noneZero, listFits, withinLimits}
 use Rattle.messages.specs.Answers.{one}
-use Rattle.storage_block.specs.Block.{register, registerOf, headGood, restZero, sumsGood, good, stateOf, slotOf, front, padded, body, sealed, image}
+use Rattle.storage_block.specs.Block.{register, registerOf, headGood, restZero, sumsGood, good, stateOf, slotOf, front, body, sealed, image}
 use Rattle.storage_search.specs.Table.{isSized, blockAt, withBlock, slotsFrom, slots, noneBad, count, firstFrom, whereIs}
 use Rattle.acceptor_rules.specs.Rules.{Outcome, outcome, keep, put, workOn, receive}
 use Rattle.acceptor.specs.Contract.{outcomeOn, stored}

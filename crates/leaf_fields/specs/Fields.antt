@@ -1,10 +1,10 @@
 -- Numbers as bytes, the lowest first, at any width; parts of a row of bytes; rows of zeros.
 -- Assumes nothing.
 use mathlib.Core.Bool.{Bool, true, false, _&&_}
-use mathlib.Core.List.{List, [], _∷_}
+use mathlib.Core.List.{List, [], _∷_, _++_}
 use Prim.Native.Nat.{ℕ, zero, suc, _+_, _-_, _*_, _/_, _%_, _<_}
 use lib.Dec.{eqb}
-use lib.ListN.{getD, take, drop}
+use lib.ListN.{length, getD, take, drop, replicate}
 
 -- the number that the bytes are
 unfoldable pub fromLe : List ℕ → ℕ
@@ -43,3 +43,7 @@ same (x ∷ l) (y ∷ m) = eqb x y && same l m
 -- every element is a byte
 unfoldable pub Bytes : List ℕ → Type 0
 Bytes l = (i : ℕ) → byte l i < 256
+
+-- a row of n bytes that holds l, the rest zero
+unfoldable pub padded : ℕ → List ℕ → List ℕ
+padded n l = l ++ replicate (n - length l) 0

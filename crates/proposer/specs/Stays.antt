@@ -9,6 +9,7 @@ use native.Mathlib.Omega.{arith}
 use borrow.Author.Tests.{ne-eqb, leb-true, leb-false, le-leb, ltb-true, not-false}
 use lib.Dec.{eqb, leb}
 use lib.ListN.{length, length-append}
+use Rattle.proposer_area.specs.Turns.{Sized, sized-of}
 use Rattle.leaf_fields.specs.Fields.{same, Bytes}
 use Rattle.leaf_fields.specs.Laws.{and-true}
 use Rattle.messages.specs.declared.Address.{Address}
@@ -28,7 +29,6 @@ use Rattle.proposer_place.specs.AreaRows.{Entries}
 use Rattle.proposer_place.specs.AreaLaws.{Short, Lawful, LawfulPlace, LawfulPlaces, LawfulState, image-is}
 use Rattle.proposer_place.specs.AreaRead.{short-request, lawful-read, image-lent}
 use Rattle.proposer_place.specs.PlaceLaws.{lawful-new, lawful-no, lawful-yes, lawful-second, lawful-again}
-use Rattle.proposer_area.specs.HeldLaws.{Size, size-of}
 use Rattle.proposer.specs.Contract.{areaTests, outcomeOn, tickOn, areaAfter, Done}
 use Rattle.proposer_works.specs.Answerers.{or-false, room-for-one}
 use Rattle.proposer_lists.specs.ListLaws.{list-short}
@@ -570,9 +570,9 @@ tick-next s n t ok =
 
 -- so an area that is an image is one again after a call, and refusal 2 never comes of the proposer's own work
 module _ (a w : List ℕ) (n : ℕ) (bytes : Bytes a) (image : isImage a n ≡ true) where
-  size : Size a n
+  size : Sized a n
   unfolding isImage
-  size = size-of a n (and-true (sized a n) _ (and-true (sized a n && same a (areaImage (readArea a n))) (mayBeLent (readArea a n)) image .0) .0)
+  size = sized-of a n (and-true (sized a n) _ (and-true (sized a n && same a (areaImage (readArea a n))) (mayBeLent (readArea a n)) image .0) .0)
 
   pub lendable-read : Lendable (readArea a n) n
   lendable-read = record { lawful = lawful-read a n bytes (image-lent a n image); lent = image-lent a n image }

@@ -25,25 +25,14 @@ use Rattle.proposer_place.specs.Rows.{entries-length, entries-bytes}
 use Rattle.proposer_place.specs.AreaRead.{lawful-read, image-lent}
 use Rattle.proposer_place.specs.PlaceLaws.{area-place, area-part, area-counter, key-part, values-part, promised-part}
 use Rattle.proposer_place.specs.Front.{Used}
+use Rattle.proposer_area.specs.Turns.{sized-of}
 use Rattle.proposer_area.specs.Places.{placeAt, placeIn}
 use Rattle.proposer_area.specs.Held.{Held, Pends}
 
 -- ---- the size
 
-pub record Size (a : List ℕ) (n : ℕ) : Type 0 where
-  pub least : 1 ≤ n
-  pub most : n ≤ pendingMost
-  pub bytes : length a ≡ areaBytes n
-
-pub size-of : (a : List ℕ) (n : ℕ) → sized a n ≡ true → Size a n
-unfolding sized
-size-of a n h =
-    let toBytes = and-true (leb 1 n && leb n pendingMost) (eqb (length a) (areaBytes n)) h in
-    let toMost = and-true (leb 1 n) (leb n pendingMost) (toBytes .0) in
-    record { least = leb-true 1 n (toMost .0); most = leb-true n pendingMost (toMost .1); bytes = eqb-true (length a) (areaBytes n) (toBytes .1) }
-
 pub place-room : (a : List ℕ) (n i : ℕ) → sized a n ≡ true → i < n → placeAt i + placeBytes ≤ length a
-place-room a n i h lt = omega (arith, size-of a n h .bytes)
+place-room a n i h lt = omega (arith, sized-of a n h .bytes)
 
 -- ---- an image
 
@@ -102,7 +91,7 @@ module _ (a : List ℕ) (n : ℕ) (held : Held a n) where
   bytes-held = subst (λ (r : List ℕ). Bytes r) (sym (held .image)) (bytes-area (readArea a n) n (held .lawful))
 
   list-at : (at k : ℕ) → at + 2 * k ≤ headerBytes → part a at (2 * k) ≡ entryBytes (entries a at k)
-  list-at at k room = sym (entries-bytes a at k (omega (arith, size-of a n (held .sized) .bytes)) bytes-held)
+  list-at at k room = sym (entries-bytes a at k (omega (arith, sized-of a n (held .sized) .bytes)) bytes-held)
 
   pub accept-count : byte a acceptCountAt ≡ length (readArea a n .acceptAcceptors)
   unfolding readArea

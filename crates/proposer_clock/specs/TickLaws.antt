@@ -11,6 +11,7 @@ use borrow.Author.Tests.{ne-eqb}
 use lib.Dec.{eqb}
 use lib.ListN.{length, set, length-append}
 use lib.Seq.{sets, length-sets}
+use Rattle.leaf_fields.specs.Stores.{sets-join}
 use Rattle.leaf_fields.specs.Fields.{toLe}
 use Rattle.leaf_fields.specs.Laws.{length-toLe}
 use Rattle.messages.specs.declared.answer.Answer.{Answer}
@@ -25,12 +26,12 @@ use Rattle.proposer_place.specs.AreaLaws.{Lawful, LawfulPlace, LawfulState, rea
 use Rattle.proposer_place.specs.AreaRead.{length-read}
 use Rattle.proposer_place.specs.Front.{frontOf}
 use Rattle.proposer_place.specs.PlaceLaws.{lawful-place-set}
-use Rattle.proposer_place.specs.Rows.{sets-join}
+use Rattle.proposer_area.specs.Turns.{sized-of}
 use Rattle.proposer_area.specs.Places.{placeAt, placeIn}
 use Rattle.proposer_clock.specs.Late.{noneBelow, lateOf}
 use Rattle.proposer_clock.specs.LateLaws.{LateAt, late-none, late-some, length-late}
 use Rattle.proposer_area.specs.Held.{Held}
-use Rattle.proposer_area.specs.HeldLaws.{size-of, state-held, place-image, lawful-at, with-place}
+use Rattle.proposer_area.specs.HeldLaws.{state-held, place-image, lawful-at, with-place}
 use Rattle.proposer_works.specs.Works.{answerBytes, Worked}
 use Rattle.proposer_works.specs.WorksLaws.{refused-work}
 
@@ -161,7 +162,7 @@ module _ (a w : List ℕ) (n t k : ℕ) (a′ w′ : List ℕ) (here : Expiring 
       let first : lateOnes s t l ≡ p ∷ lateOnes s t l₁ = sym (ones-same now-s s t timeout-same l) ∙ found .first ∙ ap (λ (r : List Pending). p ∷ r) (ones-same now-s s t timeout-same l₁) in
       let row : Row = record { client = f .client; id = f .id } in
       let told-row : row ≡ record { client = p .client; id = p .id } = rw (ef, same-pending) in
-      let size = size-of a′ n (here .held .sized) in
+      let size = sized-of a′ n (here .held .sized) in
       record {
         held = subst (λ (u : List ℕ). Held u n) (sym image) (state-held s₁ n s₁-lawful (size .least) (size .most));
         same =

@@ -10,12 +10,12 @@ use borrow.Author.Tests.{eqb-true, eq-eqb, leb-true, le-leb}
 use lib.Dec.{eqb, leb}
 use lib.ListN.{length, take, drop, replicate, length-take, length-drop, length-replicate, take-append-drop}
 use lib.Seq.{drop-cons, drop-drop, take-add}
-use Rattle.leaf_fields.specs.Fields.{toLe, part, span, byte, allZero, same, Bytes}
+use Rattle.leaf_fields.specs.Fields.{toLe, part, span, byte, allZero, same, Bytes, padded}
 use Rattle.leaf_fields.specs.Laws.{toLe-fromLe, length-part, bytes-part, and-true, zeros-are, zeros-zero, same-true, same-refl}
 use Rattle.messages.specs.Limits.{listMost, noneZero, listFits}
 use Rattle.messages.specs.Answers.{entries, entryBytes}
 use Rattle.proposer_rules.specs.State.{Pending}
-use Rattle.proposer_place.specs.Area.{counterAt, acceptCountAt, proposeCountAt, acceptListAt, proposeListAt, headerBytes, listBytes, usedAt, placeBytes, padded, listRow, placeImage, placesImage, headerFront, areaImage, longAt, readPending, readPlace, readPlaces, readArea, promiseFits, sizesFit, answersFit, pendingFits, placesFit, distinct, ballotsOf, mayBeLent, sized, isImage}
+use Rattle.proposer_place.specs.Area.{counterAt, acceptCountAt, proposeCountAt, acceptListAt, proposeListAt, headerBytes, listBytes, usedAt, placeBytes, listRow, placeImage, placesImage, headerFront, areaImage, longAt, readPending, readPlace, readPlaces, readArea, promiseFits, sizesFit, answersFit, pendingFits, placesFit, distinct, ballotsOf, mayBeLent, sized, isImage}
 use Rattle.proposer_place.specs.AreaRows.{length-entries, length-list, row-there, row-behind, behind-content}
 use Rattle.proposer_place.specs.AreaLaws.{LawfulPlaces, LawfulState, length-place, written-read}
 use Rattle.proposer_place.specs.AreaRead.{lawful-read, image-lent}

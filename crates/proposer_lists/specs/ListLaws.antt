@@ -9,17 +9,17 @@ use borrow.Author.Tests.{leb-true}
 use lib.Dec.{leb}
 use lib.ListN.{length, set, replicate, length-append, replicate-append-replicate}
 use lib.Seq.{sets}
-use Rattle.leaf_fields.specs.Fields.{toLe}
+use Rattle.leaf_fields.specs.Stores.{sets-middle, sets-whole}
+use Rattle.leaf_fields.specs.Fields.{toLe, padded}
 use Rattle.leaf_fields.specs.Laws.{and-true}
 use Rattle.messages.specs.Limits.{listMost, noneZero, listFits}
 use Rattle.messages.specs.Answers.{entryBytes}
 use Rattle.proposer_rules.specs.State.{Proposer}
 use Rattle.proposer_rules.specs.Rules.{withLists, emptyPlaces, start}
-use Rattle.proposer_place.specs.Area.{timeoutAt, acceptCountAt, proposeCountAt, acceptListAt, proposeListAt, headerBytes, placeBytes, areaBytes, padded, listRow, placeImage, placesImage, headerFront, areaImage, readArea, sized}
+use Rattle.proposer_place.specs.Area.{timeoutAt, acceptCountAt, proposeCountAt, acceptListAt, proposeListAt, headerBytes, placeBytes, areaBytes, listRow, placeImage, placesImage, headerFront, areaImage, readArea, sized}
 use Rattle.proposer_place.specs.AreaRows.{length-list}
-use Rattle.proposer_place.specs.Rows.{sets-middle, sets-whole}
+use Rattle.proposer_area.specs.Turns.{sized-of}
 use Rattle.proposer_area.specs.Held.{Held}
-use Rattle.proposer_area.specs.HeldLaws.{size-of}
 
 -- ---- one list
 
@@ -106,7 +106,7 @@ pub started : (a : List ℕ) (n t : ℕ) (l a₀ a₁ a₂ a₃ : List ℕ) → 
 unfolding start
 started a n t l a₀ a₁ a₂ a₃ h fits e₀ e₁ e₂ e₃ =
     let short = list-short l fits in
-    let empty : a₀ ≡ areaImage (start 0 [] n) = e₀ ∙ ap (λ (k : ℕ). replicate {A = ℕ} k 0) (size-of a n h .bytes) ∙ zeros-start n in
+    let empty : a₀ ≡ areaImage (start 0 [] n) = e₀ ∙ ap (λ (k : ℕ). replicate {A = ℕ} k 0) (sized-of a n h .bytes) ∙ zeros-start n in
     let timed : a₁ ≡ areaImage (start t [] n) = e₁ ∙ ap (λ (r : List ℕ). sets r timeoutAt (toLe 8 t)) empty ∙ timeout-stored (start 0 [] n) t in
     let accepting : a₂ ≡ areaImage (withLists (start t [] n) l []) =
     e₂ ∙ ap (λ (r : List ℕ). set (sets r acceptListAt (listRow l)) acceptCountAt (length l)) timed ∙ accept-stored (start t [] n) l short (omega arith) in

@@ -6,7 +6,7 @@ use mathlib.Core.Option.{Option, none, some}
 use Prim.Native.Nat.{ℕ, zero, suc, _+_, _-_, _*_}
 use lib.Dec.{eqb, leb}
 use lib.ListN.{length, replicate}
-use Rattle.leaf_fields.specs.Fields.{fromLe, toLe, part, byte, same}
+use Rattle.leaf_fields.specs.Fields.{fromLe, toLe, part, byte, same, padded}
 use Rattle.messages.specs.declared.Ballot.{Ballot}
 use Rattle.messages.specs.Message.{Key, Value, Request}
 use Rattle.messages.specs.Limits.{keyMost, valueMost, listMost, pendingMost, optionFits, requestFits, listFits}
@@ -176,10 +176,6 @@ markByte none = 0
 markByte (some v) = 1
 
 -- ---- writing
-
--- l, and zeros up to n bytes
-unfoldable pub padded : ℕ → List ℕ → List ℕ
-padded n l = l ++ replicate (n - length l) 0
 
 -- the entries of a list, unused ones zero
 unfoldable pub listRow : List ℕ → List ℕ

@@ -7,13 +7,13 @@ use Prim.Native.Nat.{ℕ, suc, _-_, _<_}
 use native.Mathlib.Omega.{arith}
 use lib.Dec.{lit<}
 use lib.ListN.{length, replicate}
-use Rattle.leaf_fields.specs.Fields.{toLe, Bytes}
+use Rattle.leaf_fields.specs.Fields.{toLe, Bytes, padded}
 use Rattle.messages.specs.Message.{Value, Request}
 use Rattle.messages.specs.Limits.{keyMost, valueMost}
 use Rattle.messages.specs.Answers.{bytesOf, entryBytes}
 use Rattle.proposer_rules.specs.State.{Phase, Propose, Accept, Pending, Proposer, keyOf}
 use Rattle.leaf_fields.specs.Rows.{bytes-none, bytes-front, bytes-append, bytes-zeros, bytes-toLe}
-use Rattle.proposer_place.specs.Area.{listBytes, placeBytes, valuesBytes, firstValue, secondValue, kindByte, phaseByte, flagByte, markByte, padded, listRow, placeFront, valuesOf, placeValues, placeRest, placeImage, placesImage, headerFront, areaImage}
+use Rattle.proposer_place.specs.Area.{listBytes, placeBytes, valuesBytes, firstValue, secondValue, kindByte, phaseByte, flagByte, markByte, listRow, placeFront, valuesOf, placeValues, placeRest, placeImage, placesImage, headerFront, areaImage}
 use Rattle.proposer_place.specs.AreaLaws.{Lawful, LawfulPlace, LawfulPlaces, LawfulState}
 
 -- ---- rows of bytes

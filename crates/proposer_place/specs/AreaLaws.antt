@@ -9,13 +9,13 @@ use native.Mathlib.Omega.{arith}
 use borrow.Author.Tests.{eq-eqb, le-leb}
 use lib.Dec.{eqb}
 use lib.ListN.{length, getD, drop, length-append, length-replicate}
-use Rattle.leaf_fields.specs.Fields.{toLe, byte, part, same, Bytes}
+use Rattle.leaf_fields.specs.Fields.{toLe, byte, part, same, Bytes, padded}
 use Rattle.leaf_fields.specs.Laws.{fromLe-toLe, and-true, same-true, same-refl}
 use Rattle.messages.specs.Message.{Value, Request}
 use Rattle.messages.specs.Limits.{keyMost, valueMost, listMost, pendingMost}
 use Rattle.messages.specs.Answers.{bytesOf, entries}
 use Rattle.proposer_rules.specs.State.{Phase, Propose, Accept, Pending, Proposer, keyOf}
-use Rattle.proposer_place.specs.Area.{counterAt, timeoutAt, acceptCountAt, proposeCountAt, acceptListAt, proposeListAt, headerBytes, listBytes, usedAt, phaseAt, retriedAt, kindAt, keyLengthAt, firstMarkAt, secondMarkAt, promisedMarkAt, clientAt, firstLengthAt, secondLengthAt, promisedLengthAt, idAt, ballotAt, promisedAt, arrivalAt, waitedCountAt, yesCountAt, noCountAt, waitedAt, yesAt, noAt, keyStart, valuesAt, promisedValueAt, placeBytes, valuesBytes, areaBytes, firstValue, secondValue, kindByte, phaseByte, flagByte, markByte, padded, listRow, placeFront, valuesOf, placeValues, placeRest, placeImage, placesImage, headerFront, areaImage, phaseFrom, valueFrom, requestFrom, shortAt, longAt, keyIn, firstIn, secondIn, promisedIn, readPending, readPlace, readPlaces, readArea, mayBeLent, sized, isImage}
+use Rattle.proposer_place.specs.Area.{counterAt, timeoutAt, acceptCountAt, proposeCountAt, acceptListAt, proposeListAt, headerBytes, listBytes, usedAt, phaseAt, retriedAt, kindAt, keyLengthAt, firstMarkAt, secondMarkAt, promisedMarkAt, clientAt, firstLengthAt, secondLengthAt, promisedLengthAt, idAt, ballotAt, promisedAt, arrivalAt, waitedCountAt, yesCountAt, noCountAt, waitedAt, yesAt, noAt, keyStart, valuesAt, promisedValueAt, placeBytes, valuesBytes, areaBytes, firstValue, secondValue, kindByte, phaseByte, flagByte, markByte, listRow, placeFront, valuesOf, placeValues, placeRest, placeImage, placesImage, headerFront, areaImage, phaseFrom, valueFrom, requestFrom, shortAt, longAt, keyIn, firstIn, secondIn, promisedIn, readPending, readPlace, readPlaces, readArea, mayBeLent, sized, isImage}
 use Rattle.proposer_place.specs.AreaRows.{length-padded, length-list, row-there, row-behind, content-there, first-there, second-there, Entries, list-there}
 
 -- ---- what fits its fields

@@ -6,11 +6,11 @@ use Prim.Native.Nat.{ℕ, suc, _+_, _-_, _*_, _^_, _≤_, _<_}
 use native.Mathlib.Omega.{arith}
 use lib.ListN.{length, getD, take, drop, replicate, length-append, length-replicate}
 use lib.Seq.{take-at, drop-at, drop-drop}
-use Rattle.leaf_fields.specs.Fields.{fromLe, toLe, part}
+use Rattle.leaf_fields.specs.Fields.{fromLe, toLe, part, padded}
 use Rattle.leaf_fields.specs.Laws.{length-toLe, fromLe-toLe}
 use Rattle.messages.specs.Limits.{listMost}
 use Rattle.messages.specs.Answers.{entries, entryBytes}
-use Rattle.proposer_place.specs.Area.{listBytes, padded, listRow}
+use Rattle.proposer_place.specs.Area.{listBytes, listRow}
 
 -- ---- lengths
 

@@ -6,7 +6,7 @@ use mathlib.Core.List.{List, [], _∷_, _++_}
 use mathlib.Core.Option.{some}
 use Prim.Native.Nat.{ℕ, _+_, _<_}
 use lib.ListN.{length}
-use Rattle.leaf_fields.specs.Fields.{toLe}
+use Rattle.leaf_fields.specs.Fields.{toLe, padded}
 use Rattle.messages.specs.declared.OptionValue.{OptionValue}
 use Rattle.messages.specs.declared.Req.{Req}
 use Rattle.messages.specs.declared.Ballot.{Ballot}
@@ -16,7 +16,7 @@ use Rattle.messages.specs.Answers.{marked, bytesOf, requestRpc}
 use Rattle.proposer_place.specs.declared.front.Phase as Code
 use Rattle.proposer_place.specs.declared.front.Front.{Front}
 use Rattle.proposer_rules.specs.State.{Phase, Propose, Accept, Pending, keyOf}
-use Rattle.proposer_place.specs.Area.{listBytes, valuesBytes, firstValue, secondValue, flagByte, padded, placeImage, readPending}
+use Rattle.proposer_place.specs.Area.{listBytes, valuesBytes, firstValue, secondValue, flagByte, placeImage, readPending}
 use Rattle.proposer_place.specs.AreaLaws.{Lawful}
 
 -- ---- the struct

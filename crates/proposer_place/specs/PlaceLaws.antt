@@ -9,6 +9,7 @@ use native.Mathlib.Omega.{arith}
 use lib.Dec.{lit<}
 use lib.ListN.{length, getD, set, take, drop, length-append, length-set}
 use lib.Seq.{sets, take-at, drop-at, drop-drop}
+use Rattle.leaf_fields.specs.Stores.{sets-left, sets-right, sets-whole}
 use Rattle.leaf_fields.specs.Fields.{toLe, part, Bytes}
 use Rattle.leaf_fields.specs.Laws.{length-toLe}
 use Rattle.leaf_fields.specs.Rows.{bytes-none}
@@ -20,7 +21,6 @@ use Rattle.messages.specs.Answers.{bytesOf}
 use Rattle.proposer_rules.specs.State.{Pending, Proposer, keyOf, newPending, withNo, withYes, secondPhase, askedAgain}
 use Rattle.proposer_place.specs.Area.{counterAt, headerBytes, keyStart, valuesAt, promisedValueAt, placeBytes, valuesBytes, valuesOf, firstValue, secondValue, listRow, placeImage, placesImage, headerFront, areaImage}
 use Rattle.proposer_place.specs.AreaRows.{Entries, length-list, content-there}
-use Rattle.proposer_place.specs.Rows.{sets-left, sets-right, sets-whole}
 use Rattle.proposer_place.specs.AreaLaws.{Short, ShortList, Lawful, LawfulPlace, LawfulPlaces, LawfulState, length-place, key-there, values-there, promised-there}
 
 -- the first of two rows, stored anew

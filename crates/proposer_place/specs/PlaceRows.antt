@@ -8,7 +8,8 @@ use native.Mathlib.Omega.{arith}
 use borrow.Rule.Slice.PartMut.{putMid}
 use lib.ListN.{length, replicate, length-append}
 use lib.Seq.{sets, length-sets}
-use Rattle.leaf_fields.specs.Fields.{toLe, Bytes}
+use Rattle.leaf_fields.specs.Stores.{sets-left, sets-right, sets-whole, sets-zeros, padded-more, put-middle}
+use Rattle.leaf_fields.specs.Fields.{toLe, Bytes, padded}
 use Rattle.leaf_fields.specs.Laws.{length-toLe}
 use Rattle.messages.specs.declared.Address.{Address}
 use Rattle.messages.specs.declared.Ballot.{Ballot}
@@ -18,13 +19,13 @@ use Rattle.messages.specs.Fit.{marked-given}
 use Rattle.messages.specs.Limits.{keyMost, valueMost, listMost}
 use Rattle.messages.specs.Answers.{bytesOf, entries, entryBytes}
 use Rattle.proposer_rules.specs.State.{Pending, keyOf, withNo, withYes, secondPhase, askedAgain}
-use Rattle.proposer_place.specs.Area.{listBytes, waitedAt, yesAt, noAt, keyStart, valuesAt, promisedValueAt, placeBytes, valuesBytes, padded, listRow, placeFront, valuesOf, placeValues, placeRest, placeImage, readPending}
+use Rattle.proposer_place.specs.Area.{listBytes, waitedAt, yesAt, noAt, keyStart, valuesAt, promisedValueAt, placeBytes, valuesBytes, listRow, placeFront, valuesOf, placeValues, placeRest, placeImage, readPending}
 use Rattle.proposer_place.specs.AreaRows.{length-padded, length-list}
 use Rattle.proposer_place.specs.AreaLaws.{Lawful, length-place}
 use Rattle.proposer_place.specs.declared.front.Front.{Front}
 use Rattle.proposer_place.specs.Front.{frontOf, frontBytes, withPromise, inSecond, anew, placeRows, Used}
 use Rattle.proposer_place.specs.FrontLaws.{front-bytes, length-front-bytes}
-use Rattle.proposer_place.specs.Rows.{sets-left, sets-right, sets-whole, sets-zeros, padded-more, put-middle, entries-length, list-more, entries-whole}
+use Rattle.proposer_place.specs.Rows.{entries-length, list-more, entries-whole}
 
 -- ---- a place as rows that are full
 

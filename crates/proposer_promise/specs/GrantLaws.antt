@@ -27,10 +27,11 @@ use Rattle.proposer_place.specs.Area.{placeImage, areaImage, readPending, readA
 use Rattle.proposer_place.specs.AreaLaws.{Short, Lawful, LawfulState, read-written, read-pending}
 use Rattle.proposer_place.specs.Front.{frontOf}
 use Rattle.proposer_place.specs.PlaceLaws.{lawful-yes, area-part, lawful-place-set}
+use Rattle.proposer_area.specs.Turns.{sized-of}
 use Rattle.proposer_area.specs.declared.Header.{Header}
 use Rattle.proposer_area.specs.Places.{placeAt, placeIn, headerIn}
 use Rattle.proposer_area.specs.Held.{Held, Pends}
-use Rattle.proposer_area.specs.HeldLaws.{size-of, state-held, with-place}
+use Rattle.proposer_area.specs.HeldLaws.{state-held, with-place}
 use Rattle.proposer_works.specs.Works.{Asks, Worked, placed, accepting, retrying, granting, rejecting}
 use Rattle.proposer_works.specs.WorksLaws.{refused-work, due-none}
 use Rattle.proposer_works.specs.Answerers.{more}
@@ -78,7 +79,7 @@ module _ (a : List ℕ) (n i : ℕ) (q : Pending) (held : Held a n) (within : i 
     pub noted-held : Held a₁ n
     noted-held =
         subst (λ (r : List ℕ). Held r n) (sym noted-image)
-        (state-held noted n noted-lawful (size-of a n (held .sized) .least) (size-of a n (held .sized) .most))
+        (state-held noted n noted-lawful (sized-of a n (held .sized) .least) (sized-of a n (held .sized) .most))
 
     pub noted-pends : Pends a₁ n i
     noted-pends = record { within = within; used = rw (noted-read, noted-pending) noted-there }

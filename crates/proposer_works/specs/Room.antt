@@ -12,10 +12,11 @@ use Rattle.messages.specs.Limits.{keyMost, listMost}
 use Rattle.proposer_place.specs.declared.front.Front.{Front}
 use Rattle.proposer_place.specs.Area.{areaBytes, listBytes, placeBytes, readPending}
 use Rattle.proposer_place.specs.Front.{frontOf, Used}
+use Rattle.proposer_area.specs.Turns.{sized-of}
 use Rattle.proposer_area.specs.declared.Header.{Header}
 use Rattle.proposer_area.specs.Places.{placeAt, placeIn, headerIn}
 use Rattle.proposer_area.specs.Held.{Held, Pends}
-use Rattle.proposer_area.specs.HeldLaws.{size-of, place-room, used-place, lawful-pending, accept-short, propose-short}
+use Rattle.proposer_area.specs.HeldLaws.{place-room, used-place, lawful-pending, accept-short, propose-short}
 use Rattle.proposer_works.specs.Lent.{key-is}
 use Rattle.proposer_works.specs.Works.{answerBytes}
 use Rattle.proposer_works.specs.Sent.{sentIn, sent-length}
@@ -23,13 +24,13 @@ use Rattle.proposer_works.specs.Sent.{sentIn, sent-length}
 -- ---- the area
 
 pub held-bytes : (a : List ℕ) (n : ℕ) → Held a n → length a ≡ areaBytes n
-held-bytes a n held = size-of a n (held .sized) .bytes
+held-bytes a n held = sized-of a n (held .sized) .bytes
 
 pub held-few : (a : List ℕ) (n : ℕ) → Held a n → n ≤ 32
-held-few a n held = size-of a n (held .sized) .most
+held-few a n held = sized-of a n (held .sized) .most
 
 pub held-header : (a : List ℕ) (n : ℕ) → Held a n → 80 + 976 ≤ length a
-held-header a n held = omega (arith, size-of a n (held .sized) .bytes, size-of a n (held .sized) .least)
+held-header a n held = omega (arith, sized-of a n (held .sized) .bytes, sized-of a n (held .sized) .least)
 
 pub held-room : (a : List ℕ) (n i : ℕ) → Held a n → Pends a n i → placeAt i + placeBytes ≤ length a
 held-room a n i held pends = place-room a n i (held .sized) (pends .within)

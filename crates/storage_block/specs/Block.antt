@@ -7,7 +7,7 @@ use mathlib.Core.Option.{Option, none, some}
 use Prim.Native.Nat.{ℕ, _+_, _-_, _*_, _^_, _≤_, _<_}
 use lib.Dec.{eqb, leb}
 use lib.ListN.{length, replicate}
-use Rattle.leaf_fields.specs.Fields.{fromLe, toLe, part, span, byte, allZero, Bytes}
+use Rattle.leaf_fields.specs.Fields.{fromLe, toLe, part, span, byte, allZero, Bytes, padded}
 use Rattle.leaf_sums.specs.Sums.{plainSum, placedSum}
 use Rattle.messages.specs.Ballots.{ballot0, above}
 use Rattle.messages.specs.Message.{Key, Value}
@@ -121,10 +121,6 @@ markByte OptionValue.Some = 1
 unfoldable pub front : ℕ → Ballot → Ballot → OptionValue → ℕ → List ℕ
 front keyLen seen accepted value valueLen =
     1 ∷ keyLen ∷ markByte value ∷ 0 ∷ (toLe 2 valueLen ++ (0 ∷ 0 ∷ (toLe 8 (seen .0) ++ toLe 8 (accepted .0))))
-
--- l, and zeros up to n bytes
-unfoldable pub padded : ℕ → List ℕ → List ℕ
-padded n l = l ++ replicate (n - length l) 0
 
 -- the bytes from 88 to 503, where a value stands
 abbrev pub valueRoom : ℕ

@@ -10,7 +10,7 @@ use borrow.Author.Tests.{eqb-true, eqb-false, leb-true, not-true}
 use lib.Dec.{eqb, leb}
 use lib.ListN.{length, take, drop, replicate, length-drop, length-take, take-append-drop}
 use lib.Seq.{drop-drop, take-all}
-use Rattle.leaf_fields.specs.Fields.{fromLe, toLe, part, span, byte, allZero, Bytes}
+use Rattle.leaf_fields.specs.Fields.{fromLe, toLe, part, span, byte, allZero, Bytes, padded}
 use Rattle.leaf_fields.specs.Laws.{and-true, zeros-are, length-part, bytes-part}
 use Rattle.leaf_sums.specs.Sums.{plainSum, placedSum}
 use Rattle.messages.specs.Ballots.{above}
@@ -18,7 +18,7 @@ use Rattle.messages.specs.Message.{Key}
 use Rattle.messages.specs.Limits.{keyMost, valueMost}
 use Rattle.messages.specs.Answers.{marked, bytesOf}
 use Rattle.leaf_fields.specs.Rows.{fromLe-fits, field-back, part-join, part-cons}
-use Rattle.storage_block.specs.Block.{Lawful, fresh, readable, registerWith, blockBytes, keyLength, valueLength, valueOf, registerOf, headGood, restZero, sumsGood, good, markByte, front, padded, body, sealed, image}
+use Rattle.storage_block.specs.Block.{Lawful, fresh, readable, registerWith, blockBytes, keyLength, valueLength, valueOf, registerOf, headGood, restZero, sumsGood, good, markByte, front, body, sealed, image}
 
 -- what a good head says of the fields
 pub record Head (b : List ℕ) : Type 0 where

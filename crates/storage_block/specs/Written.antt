@@ -10,7 +10,7 @@ use borrow.Author.Tests.{eq-eqb, le-leb, ltb-false}
 use lib.Dec.{lit<, eqb}
 use lib.ListN.{length, take, drop, replicate, length-append, length-replicate}
 use lib.Seq.{take-at, drop-at, drop-drop, take-all}
-use Rattle.leaf_fields.specs.Fields.{fromLe, toLe, part, span, byte, allZero, Bytes}
+use Rattle.leaf_fields.specs.Fields.{fromLe, toLe, part, span, byte, allZero, Bytes, padded}
 use Rattle.leaf_fields.specs.Laws.{length-toLe, fromLe-toLe, zeros-zero}
 use Rattle.leaf_sums.specs.Sums.{plainSum, placedSum, plain-most, placed-most}
 use Rattle.messages.specs.Message.{Value}
@@ -19,7 +19,7 @@ use Rattle.messages.specs.Answers.{marked, bytesOf}
 use Rattle.messages.specs.declared.OptionValue.{OptionValue}
 use Rattle.storage_block.specs.declared.BlockState.{BlockState}
 use Rattle.leaf_fields.specs.Rows.{bytes-front, bytes-append, bytes-zeros, bytes-toLe, part-between}
-use Rattle.storage_block.specs.Block.{Register, Lawful, blockBytes, keyLength, valueLength, registerOf, headGood, restZero, sumsGood, good, stateOf, used, slotOf, markByte, front, padded, body, sealed, image}
+use Rattle.storage_block.specs.Block.{Register, Lawful, blockBytes, keyLength, valueLength, registerOf, headGood, restZero, sumsGood, good, stateOf, used, slotOf, markByte, front, body, sealed, image}
 
 -- ---- bytes 0 to 503 and the sums behind them
 

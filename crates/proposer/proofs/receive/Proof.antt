@@ -16,8 +16,9 @@ use Rattle.messages.specs.Limits.{pendingMost}
 use Rattle.proposer_rules.specs.Rules as Rules
 use Rattle.proposer_place.specs.Area.{readArea, sized, mayBeLent, isImage}
 use Rattle.proposer_place.specs.AreaRead.{image-lent}
+use Rattle.proposer_area.specs.Turns.{sized-of}
 use Rattle.proposer_area.specs.Held.{Held}
-use Rattle.proposer_area.specs.HeldLaws.{size-of, image-held}
+use Rattle.proposer_area.specs.HeldLaws.{image-held}
 use Rattle.proposer.specs.Contract.{outcomeOn, Done}
 use Rattle.proposer_works.specs.Works.{answerBytes, Worked}
 use Rattle.proposer.specs.ReceiveLaws.{wrong-size, wrong-answer, no-image, received}
@@ -31,7 +32,7 @@ is-sized : (a : List ℕ) (n : ℕ) (s : Bool) → s ≡ sized a n → not s ≡
 is-sized a n s es h = sym es ∙ not-false s h
 
 few-places : (a : List ℕ) (n : ℕ) (s : Bool) → s ≡ sized a n → not s ≡ false → n ≤ pendingMost
-few-places a n s es h = size-of a n (is-sized a n s es h) .most
+few-places a n s es h = sized-of a n (is-sized a n s es h) .most
 
 lent : (a : List ℕ) (n : ℕ) (d : Bool) → d ≡ isImage a n → not d ≡ false → mayBeLent (readArea a n) ≡ true
 lent a n d ed h = image-lent a n (sym ed ∙ not-false d h)

@@ -13,8 +13,9 @@ use Rattle.messages.specs.declared.answer.Refusal.{Refusal}
 use Rattle.messages.specs.Limits.{pendingMost}
 use Rattle.proposer_rules.specs.Rules as Rules
 use Rattle.proposer_place.specs.Area.{readArea, sized, isImage}
+use Rattle.proposer_area.specs.Turns.{sized-of}
 use Rattle.proposer_area.specs.Held.{Held}
-use Rattle.proposer_area.specs.HeldLaws.{size-of, image-held}
+use Rattle.proposer_area.specs.HeldLaws.{image-held}
 use Rattle.proposer.specs.Contract.{tickOn, Done}
 use Rattle.proposer_works.specs.Works.{answerBytes, Worked}
 use Rattle.proposer.specs.ReceiveLaws.{wrong-size, wrong-answer, no-image, ticked}
@@ -28,7 +29,7 @@ is-sized : (a : List ℕ) (n : ℕ) (s : Bool) → s ≡ sized a n → not s ≡
 is-sized a n s es h = sym es ∙ not-false s h
 
 few-places : (a : List ℕ) (n : ℕ) (s : Bool) → s ≡ sized a n → not s ≡ false → n ≤ pendingMost
-few-places a n s es h = size-of a n (is-sized a n s es h) .most
+few-places a n s es h = sized-of a n (is-sized a n s es h) .most
 
 held : (a : List ℕ) (n : ℕ) (s d : Bool) → Bytes a → s ≡ sized a n → not s ≡ false → d ≡ isImage a n → not d ≡ false → Held a n
 held a n s d bytes es h ed g = image-held a n bytes (is-sized a n s es h) (sym ed ∙ not-false d g)

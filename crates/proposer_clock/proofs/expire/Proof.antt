@@ -15,11 +15,12 @@ use Rattle.proposer_rules.specs.Rules.{moved, inTime, lateOnes, rowsOf}
 use Rattle.proposer_place.specs.declared.front.Front.{Front}
 use Rattle.proposer_place.specs.Front.{frontOf}
 use Rattle.proposer_place.specs.Area.{headerBytes, placeBytes, placeImage, areaImage, readPending, readPlaces, readArea, sized}
+use Rattle.proposer_area.specs.Turns.{sized-of}
 use Rattle.proposer_area.specs.declared.Header.{Header}
 use Rattle.proposer_area.specs.Places.{headerIn, placeAt, placeIn}
 use Rattle.proposer_clock.specs.Late.{lateOf}
 use Rattle.proposer_area.specs.Held.{Held}
-use Rattle.proposer_area.specs.HeldLaws.{size-of, place-room}
+use Rattle.proposer_area.specs.HeldLaws.{place-room}
 use Rattle.proposer_clock.specs.TickLaws.{Expiring, Expired, expire-begins, expire-ends, expire-full, expire-goes-on}
 use borrow.Author.Needs.{needs}
 use Rattle.proposer_clock.proofs.expire.Statement.{statement}
@@ -34,13 +35,13 @@ abbrev μ-loop : tie.MeasureT-loop
 -- ---- what the calls require
 
 header-room : (a : List ℕ) (n : ℕ) → Held a n → headerBytes ≤ length a
-header-room a n held = omega (arith, size-of a n (held .sized) .bytes)
+header-room a n held = omega (arith, sized-of a n (held .sized) .bytes)
 
 size-now : (a w : List ℕ) (n t k : ℕ) (a′ w′ : List ℕ) → Expiring a w n t k a′ w′ → sized a′ n ≡ true
 size-now a w n t k a′ w′ here = here .held .sized
 
 same-size : (a w : List ℕ) (n t k : ℕ) (a′ w′ : List ℕ) → Held a n → Expiring a w n t k a′ w′ → length a′ ≡ length a
-same-size a w n t k a′ w′ held here = size-of a′ n (here .held .sized) .bytes ∙ sym (size-of a n (held .sized) .bytes)
+same-size a w n t k a′ w′ held here = sized-of a′ n (here .held .sized) .bytes ∙ sym (sized-of a n (held .sized) .bytes)
 
 timeout-now : (a w : List ℕ) (n t k : ℕ) (a′ w′ : List ℕ) (h : Header) → Expiring a w n t k a′ w′ → h ≡ headerIn a → h .timeout ≡ readArea a′ n .timeout
 unfolding readArea

@@ -5,11 +5,11 @@ use mathlib.Core.List.{List, [], _∷_, _++_, append-nil}
 use Prim.Native.Nat.{ℕ, _+_, _*_}
 use native.Mathlib.Omega.{arith}
 use lib.Seq.{sets}
+use Rattle.leaf_fields.specs.Stores.{sets-join}
 use Rattle.leaf_fields.specs.Fields.{toLe}
 use Rattle.leaf_fields.specs.Laws.{length-toLe}
 use Rattle.messages.specs.declared.Address.{Address}
 use Rattle.messages.specs.Answers.{rowsAt, rowBytes, rowsBytes}
-use Rattle.proposer_place.specs.Rows.{sets-join}
 use borrow.Author.Needs.{needs}
 use Rattle.proposer_clock.proofs.put_row.Statement.{statement}
 use Rattle.proposer_clock.proofs.put_row.Tie as tie

@@ -7,20 +7,20 @@ use Prim.Native.Nat.{ℕ, _+_, _≤_, _<_}
 use native.Mathlib.Omega.{arith}
 use lib.ListN.{length, set, replicate, length-set, length-replicate}
 use lib.Seq.{sets, length-sets}
+use Rattle.proposer_area.specs.Turns.{sized-of}
 use Rattle.leaf_fields.specs.Fields.{toLe}
 use Rattle.proposer_place.specs.Area.{timeoutAt, acceptCountAt, proposeCountAt, acceptListAt, proposeListAt, headerBytes, listBytes, listRow, sized}
-use Rattle.proposer_area.specs.HeldLaws.{size-of}
 use Rattle.proposer_lists.specs.ListLaws.{list-short, started}
 use borrow.Author.Needs.{needs}
 use Rattle.proposer_lists.proofs.begin.Statement.{statement}
 use Rattle.proposer_lists.proofs.begin.Tie as tie
 
 timeout-room : (a a₀ : List ℕ) (n : ℕ) → sized a n ≡ true → a₀ ≡ replicate (length a) 0 → timeoutAt + 8 ≤ length a₀
-timeout-room a a₀ n h e = omega (arith, size-of a n h .bytes, ap length e, length-replicate {A = ℕ} (length a) 0)
+timeout-room a a₀ n h e = omega (arith, sized-of a n h .bytes, ap length e, length-replicate {A = ℕ} (length a) 0)
 
 module _ (a : List ℕ) (n t : ℕ) (l a₀ a₁ : List ℕ) (h : sized a n ≡ true) (e₀ : a₀ ≡ replicate (length a) 0) (e₁ : a₁ ≡ sets a₀ timeoutAt (toLe 8 t)) where
   timed-long : headerBytes ≤ length a₁
-  timed-long = omega (arith, size-of a n h .bytes, ap length e₀, length-replicate {A = ℕ} (length a) 0, ap length e₁, length-sets a₀ timeoutAt (toLe 8 t))
+  timed-long = omega (arith, sized-of a n h .bytes, ap length e₀, length-replicate {A = ℕ} (length a) 0, ap length e₁, length-sets a₀ timeoutAt (toLe 8 t))
 
   accepting-long : (a₂ : List ℕ) → a₂ ≡ set (sets a₁ acceptListAt (listRow l)) acceptCountAt (length l) → headerBytes ≤ length a₂
   accepting-long a₂ e₂ = omega (arith, timed-long, ap length e₂, length-set (sets a₁ acceptListAt (listRow l)) acceptCountAt (length l), length-sets a₁ acceptListAt (listRow l))

@@ -7,13 +7,13 @@ use native.Mathlib.Numerals.{add-one}
 use native.Mathlib.Omega.{arith}
 use lib.ListN.{length, getD, drop, replicate, drop-of-length-le}
 use lib.Seq.{sets, drop-cons}
+use Rattle.leaf_fields.specs.Stores.{sets-join, sets-zeros}
 use Rattle.leaf_fields.specs.Fields.{toLe}
 use Rattle.leaf_fields.specs.Laws.{length-toLe}
 use Rattle.messages.specs.Limits.{listMost}
 use Rattle.messages.specs.Answers.{entryBytes}
 use Rattle.proposer_place.specs.Area.{listBytes, listRow}
 use Rattle.proposer_place.specs.AreaRows.{length-entries}
-use Rattle.proposer_place.specs.Rows.{sets-join, sets-zeros}
 use borrow.Author.Needs.{needs}
 use Rattle.proposer_lists.proofs.write_row.Statement.{statement}
 use Rattle.proposer_lists.proofs.write_row.Tie as tie

@@ -6,14 +6,14 @@ use Prim.Native.Nat.{ℕ, _-_, _≤_}
 use borrow.Rule.Slice.PartMut.{putMid}
 use lib.ListN.{length, take, drop, replicate, length-append, length-replicate}
 use lib.Seq.{sets, take-at}
+use Rattle.leaf_fields.specs.Stores.{sets-left, sets-right, sets-zeros}
 use Rattle.messages.specs.Message.{given}
 use Rattle.messages.specs.Fit.{marked-given}
 use Rattle.messages.specs.Answers.{bytesOf}
 use Rattle.messages.specs.declared.Ballot.{Ballot}
 use Rattle.messages.specs.declared.OptionValue.{OptionValue}
-use Rattle.leaf_fields.specs.Fields.{toLe}
-use Rattle.storage_block.specs.Block.{front, padded, body, sealed, image, register}
-use Rattle.storage_block.specs.Stores.{sets-left, sets-right, sets-zeros}
+use Rattle.leaf_fields.specs.Fields.{toLe, padded}
+use Rattle.storage_block.specs.Block.{front, body, sealed, image, register}
 use borrow.Author.Needs.{needs}
 use native.Mathlib.Omega.{arith}
 use Rattle.storage_write.proofs.write.Statement.{statement}

@@ -4,10 +4,10 @@ use mathlib.Core.Path.{_≡_, ap, _∙_}
 use mathlib.Core.List.{List, _++_}
 use Prim.Native.Nat.{ℕ}
 use lib.Seq.{sets}
+use Rattle.leaf_fields.specs.Stores.{sets-join}
 use Rattle.proposer_place.specs.declared.front.Front.{Front}
 use Rattle.proposer_place.specs.Front.{markBytes, numberBytes, countBytes, frontBytes}
 use Rattle.proposer_place.specs.FrontLaws.{length-marks, length-numbers}
-use Rattle.proposer_place.specs.Rows.{sets-join}
 use borrow.Author.Needs.{needs}
 use native.Mathlib.Omega.{arith}
 use Rattle.proposer_place.proofs.front.put.Statement.{statement}
