@@ -150,9 +150,9 @@ module _ (f w y n k v p : List ℕ) (size : Sized f w y n k v p) where
 
 -- ---- what a message makes of a place
 
--- the front of the request with one more no or yes
-abbrev pub oneMoreNo : Front → Front
-oneMoreNo f = record {
+-- the front of the request with that many yeses and noes
+abbrev pub counted : Front → ℕ → ℕ → Front
+counted f yeses noes = record {
   phase = f .phase;
   retried = f .retried;
   req = f .req;
@@ -167,29 +167,16 @@ oneMoreNo f = record {
   promised = f .promised;
   «received_at» = f .«received_at»;
   «waiting_for» = f .«waiting_for»;
-  «acks_from» = f .«acks_from»;
-  «nacks_from» = f .«nacks_from» + 1;
+  «acks_from» = yeses;
+  «nacks_from» = noes;
 }
 
+-- with one more no, or yes
+abbrev pub oneMoreNo : Front → Front
+oneMoreNo f = counted f (f .«acks_from») (f .«nacks_from» + 1)
+
 abbrev pub oneMoreYes : Front → Front
-oneMoreYes f = record {
-  phase = f .phase;
-  retried = f .retried;
-  req = f .req;
-  «key_len» = f .«key_len»;
-  «first_len» = f .«first_len»;
-  «second_len» = f .«second_len»;
-  mark = f .mark;
-  «value_len» = f .«value_len»;
-  client = f .client;
-  id = f .id;
-  ballot = f .ballot;
-  promised = f .promised;
-  «received_at» = f .«received_at»;
-  «waiting_for» = f .«waiting_for»;
-  «acks_from» = f .«acks_from» + 1;
-  «nacks_from» = f .«nacks_from»;
-}
+oneMoreYes f = counted f (f .«acks_from» + 1) (f .«nacks_from»)
 
 pub front-no : (p : Pending) (from : Address) → frontBytes (oneMoreNo (frontOf p)) ≡ placeFront (withNo p from)
 unfolding frontOf
