@@ -24,10 +24,10 @@ pub extern "C" fn mirkaspel_acceptor_receive(
     value: &[u8],
     other: &[u8],
     list: &[u16],
-    area: &mut [u8],
+    sent: &mut [u8],
     answer: &mut [u64; 14],
 ) -> u8
-    ensures { λ r. ⌜ HandedBack (λ (a : Answer). Received (now (table .entry)) registers (now (area .entry)) (record { 0 = from }) (messageOf (messageIn (headIn (now (message .entry)))) (now (key .entry)) (now (value .entry)) (now (other .entry)) (now (list .entry))) a (now (table .exit)) (now (area .exit))) (now (answer .entry)) r (now (answer .exit)) ⌝ }
+    ensures { λ r. ⌜ HandedBack (λ (a : Answer). Received (now (table .entry)) registers (now (sent .entry)) (record { 0 = from }) (messageOf (messageIn (headIn (now (message .entry)))) (now (key .entry)) (now (value .entry)) (now (other .entry)) (now (list .entry))) a (now (table .exit)) (now (sent .exit))) (now (answer .entry)) r (now (answer .exit)) ⌝ }
 {
     let rpc = message_in(take_head(message));
     let a = acceptor::receive(
@@ -39,7 +39,7 @@ pub extern "C" fn mirkaspel_acceptor_receive(
         value,
         other,
         list,
-        area,
+        sent,
     );
     hand_back(a, answer)
 }
