@@ -2,7 +2,8 @@
 // STEPS` it runs a whole plant of the crate's parties and writes what each of them was given as a script; with `proposer SEED STEPS` it
 // writes a random script for proposers, one after the other, choosing what is likely to meet a pending request. It stands inside a copy
 // of the crate, because `Ballot`'s field is private. A panic of the crate is the refusal that 01 gives in its place, told by the panic's own
-// words; refusals 1, 4 and 11, which have no counterpart in the crate, are 01's rules.
+// words; refusals 1, 2, 4 and 11, which have no counterpart in the crate, are 01's rules: 2 for a byte that 01 wants zero, the rest of it is
+// tests/damaged-areas' work.
 use super::*;
 use std::cell::RefCell;
 use std::collections::HashSet;
@@ -14,6 +15,7 @@ const KEY_MOST: usize = 64;
 const VALUE_MOST: usize = 256;
 const LIST_MOST: usize = 15;
 const PENDING_MOST: usize = 32;
+const REGISTERS_MOST: usize = 1024;
 
 fn bytes(w: &str) -> Vec<u8> {
     let h = w.strip_prefix('x').expect("bytes begin with x");
@@ -167,6 +169,7 @@ fn refusal() -> String {
     let said = SAID.with(|s| s.borrow().clone());
     let known = [
         ("unhandled rpc", "refused 3 WrongKind"),
+        ("Acceptor got non-propose/accept", "refused 3 WrongKind"),
         ("went back in time", "refused 5 FirstPhase"),
         ("got a response from this peer already", "refused 6 Repeated"),
         ("someone we didn't send", "refused 7 NotWaitedFor"),
@@ -191,6 +194,46 @@ fn at(ms: u64) -> SystemTime {
 enum Party {
     Acceptor { acceptor: Acceptor<MemStorage>, taken: HashSet<Vec<u8>>, registers: usize },
     Proposer { proposer: Proposer, places: usize },
+}
+
+// What is lent to a party: capacity, bytes of its table or area, bytes of its answer area; and whether a byte that must be zero is not.
+#[derive(Clone, Copy)]
+struct Lent {
+    proposer: bool,
+    capacity: usize,
+    bytes: usize,
+    answer: usize,
+    damaged: bool,
+}
+
+impl Lent {
+    fn acceptor(registers: usize) -> Lent {
+        Lent { proposer: false, capacity: registers, bytes: 512 * registers, answer: 256, damaged: false }
+    }
+
+    fn proposer(places: usize) -> Lent {
+        Lent { proposer: true, capacity: places, bytes: 80 + 976 * places, answer: 350 + 10 * places, damaged: false }
+    }
+
+    fn sized(&self) -> bool {
+        let own = if self.proposer { Lent::proposer(self.capacity) } else { Lent::acceptor(self.capacity) };
+        let most = if self.proposer { PENDING_MOST } else { REGISTERS_MOST };
+        1 <= self.capacity && self.capacity <= most && self.bytes == own.bytes && self.answer == own.answer
+    }
+
+    // Byte 3 of any block, and byte 18 of a proposer's area: 01 and docs/LAYOUT.md want them zero.
+    fn poke(&mut self, at: usize, b: &[u8]) {
+        assert!(b.len() == 1 && if self.proposer { at == 18 } else { at % 512 == 3 && at < self.bytes }, "a poke that the harness doesn't know");
+        self.damaged = b[0] != 0;
+    }
+
+    // Refusals 1 and 2, before all others.
+    fn refusal(&self) -> Option<String> {
+        if !self.sized() {
+            return Some("refused 1 AreaSize".to_string());
+        }
+        if self.damaged { Some("refused 2 Damaged".to_string()) } else { None }
+    }
 }
 
 // What a party sent, as one answer of 01.
@@ -264,7 +307,7 @@ impl Party {
                 match catch_unwind(AssertUnwindSafe(|| acceptor.receive(at(now), from.to_string(), m))) {
                     Err(_) => {
                         *acceptor = before;
-                        Err("refused 3 WrongKind".to_string())
+                        Err(refusal())
                     }
                     Ok(sends) => {
                         match &sent {
@@ -334,6 +377,7 @@ fn run_script() {
     let out = std::io::stdout();
     let mut out = std::io::BufWriter::new(out.lock());
     let mut party: Option<Party> = None;
+    let mut lent = Lent::acceptor(0);
     let mut clock = 0;
     for line in stdin.lock().lines() {
         let line = line.unwrap();
@@ -342,19 +386,31 @@ fn run_script() {
         }
         let w: Vec<&str> = line.split(' ').collect();
         match w[0] {
-            "acceptor" => party = Some(Party::acceptor(w[1].parse().unwrap())),
+            "acceptor" => {
+                lent = Lent::acceptor(w[1].parse().unwrap());
+                party = Some(Party::acceptor(lent.capacity));
+            }
             "proposer" => {
-                let (p, answer) = Party::proposer(w[1].parse().unwrap(), w[2].parse().unwrap(), list(w[3]));
+                lent = Lent::proposer(w[1].parse().unwrap());
+                let (p, answer) = Party::proposer(lent.capacity, w[2].parse().unwrap(), list(w[3]));
                 party = p;
                 writeln!(out, "{}", answer).unwrap();
             }
             "clock" => clock = w[1].parse().unwrap(),
+            "lend" => {
+                lent.capacity = w[1].parse().unwrap();
+                lent.bytes = w[2].parse().unwrap();
+                lent.answer = w[3].parse().unwrap();
+            }
+            "poke" => lent.poke(w[1].parse().unwrap(), &bytes(w[2])),
             "tick" => {
-                let told = party.as_mut().unwrap().tick(w[1].parse().unwrap());
+                // an acceptor's tick lends no table
+                let refused = if lent.proposer { lent.refusal() } else { None };
+                let told = refused.map_or_else(|| party.as_mut().unwrap().tick(w[1].parse().unwrap()), Err);
                 writeln!(out, "{}", told.map_or_else(|r| r, ticked)).unwrap();
             }
             from => {
-                let told = party.as_mut().unwrap().receive(clock, from, message(&w[1..]));
+                let told = lent.refusal().map_or_else(|| party.as_mut().unwrap().receive(clock, from, message(&w[1..])), Err);
                 writeln!(out, "{}", told.map_or_else(|r| r, answer)).unwrap();
             }
         }
@@ -590,6 +646,26 @@ fn write_proposers(seed: u64, steps: u64) {
                 println!("clock {}", now);
             }
             left = left.saturating_sub(1);
+            // now and then the next step is on a wrong size or on a damaged area
+            let lent = Lent::proposer(places);
+            let wrong = match r.below(60) {
+                0 => format!("lend {} {} {}", pick(&mut r, &[0, places + 1, PENDING_MOST + 1]), lent.bytes, lent.answer),
+                1 => format!("lend {} {} {}", places, pick(&mut r, &[0, lent.bytes - 1, lent.bytes + 1]), lent.answer),
+                2 => format!("lend {} {} {}", places, lent.bytes, pick(&mut r, &[0, lent.answer - 1, lent.answer + 1])),
+                3 => "poke 18 x01".to_string(),
+                _ => String::new(),
+            };
+            let right = if wrong.starts_with("poke") { "poke 18 x00".to_string() } else { format!("lend {} {} {}", places, lent.bytes, lent.answer) };
+            if !wrong.is_empty() {
+                println!("{}", wrong);
+                if r.below(4) == 0 {
+                    println!("tick {}", now);
+                } else {
+                    let (from, request) = (some_address(&mut r), some_request(&mut r));
+                    println!("{} {}", from, show(&ClientRequest(7, request)));
+                }
+                println!("{}", right);
+            }
             let x = r.below(100);
             if x < 4 {
                 let t = (now + pick(&mut r, &[0u64, 1, 49, 50, 51, 52])).saturating_sub(pick(&mut r, &[0, 0, 0, 60]));
