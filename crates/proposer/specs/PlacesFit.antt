@@ -13,7 +13,7 @@ use Rattle.messages.specs.declared.Ballot.{Ballot}
 use Rattle.proposer_rules.specs.State.{Pending, Proposer, listed}
 use Rattle.proposer_rules.specs.Rules.{isBallot, replaceAt, takePlace, late, inTime}
 use Rattle.proposer_place.specs.Area.{distinct, allListed, promiseFits, sizesFit, answersFit, pendingFits, placesFit, ballotsOf}
-use Rattle.proposer_image.specs.Good.{noneListed}
+use Rattle.proposer_image.specs.Good.{eachListed}
 use Rattle.proposer_works.specs.Answerers.{or-false}
 use Rattle.proposer_image.specs.Lists.{all-listed-append, distinct-append}
 
@@ -23,19 +23,19 @@ eqb-turn : (x y : ℕ) → eqb x y ≡ false → eqb y x ≡ false
 eqb-turn x y h = ne-eqb y x (λ e. absurd (false≢true (sym h ∙ eq-eqb x y (sym e))))
 
 -- none of a list stands in the list of one number that it lacks
-none-of-one : (x : ℕ) (l : List ℕ) → listed x l ≡ false → noneListed l (x ∷ []) ≡ true
-unfolding noneListed listed
+none-of-one : (x : ℕ) (l : List ℕ) → listed x l ≡ false → eachListed false l (x ∷ []) ≡ true
+unfolding eachListed listed
 none-of-one x [] h = refl
 none-of-one x (y ∷ l) h =
     let parts = or-false (eqb y x) (listed x l) h in
     rw (eqb-turn y x (parts .0), none-of-one x l (parts .1))
 
-none-append : (l m k : List ℕ) → noneListed (l ++ m) k ≡ (noneListed l k && noneListed m k)
-unfolding noneListed
+none-append : (l m k : List ℕ) → eachListed false (l ++ m) k ≡ (eachListed false l k && eachListed false m k)
+unfolding eachListed
 none-append [] m k = refl
 none-append (x ∷ l) m k = go (not (listed x k)) (none-append l m k)
   where
-    go : (t : Bool) → noneListed (l ++ m) k ≡ (noneListed l k && noneListed m k) → (t && noneListed (l ++ m) k) ≡ (t && noneListed l k && noneListed m k)
+    go : (t : Bool) → eachListed false (l ++ m) k ≡ (eachListed false l k && eachListed false m k) → (t && eachListed false (l ++ m) k) ≡ (t && eachListed false l k && eachListed false m k)
     go true e = e
     go false e = refl
 
@@ -47,12 +47,12 @@ listed-last x y (z ∷ l) h e =
     rw (parts .0, listed-last x y l (parts .1) e)
 
 -- and none stands in a longer list
-none-longer : (x : ℕ) (l k : List ℕ) → listed x l ≡ false → noneListed l k ≡ true → noneListed l (k ++ (x ∷ [])) ≡ true
-unfolding noneListed listed
+none-longer : (x : ℕ) (l k : List ℕ) → listed x l ≡ false → eachListed false l k ≡ true → eachListed false l (k ++ (x ∷ [])) ≡ true
+unfolding eachListed listed
 none-longer x [] k h n = refl
 none-longer x (y ∷ l) k h n =
     let parts = or-false (eqb y x) (listed x l) h in
-    let apart = and-true (not (listed y k)) (noneListed l k) n in
+    let apart = and-true (not (listed y k)) (eachListed false l k) n in
     rw (listed-last x y k (not-true _ (apart .0)) (eqb-turn y x (parts .0)), none-longer x l k (parts .1) (apart .1))
 
 -- ---- one more answer
@@ -62,10 +62,10 @@ module _ (yeses noes waited : List ℕ) (x : ℕ) (fits : (allListed (yeses ++ n
   all-there =
       and-true (allListed yeses waited) (allListed noes waited) (sym (all-listed-append yeses noes waited) ∙ and-true (allListed (yeses ++ noes) waited) (distinct (yeses ++ noes)) fits .0)
 
-  all-apart : (distinct yeses ≡ true) × (distinct noes ≡ true) × (noneListed yeses noes ≡ true)
+  all-apart : (distinct yeses ≡ true) × (distinct noes ≡ true) × (eachListed false yeses noes ≡ true)
   all-apart =
       let whole = sym (distinct-append yeses noes) ∙ and-true (allListed (yeses ++ noes) waited) (distinct (yeses ++ noes)) fits .1 in
-      let front = and-true (distinct yeses && distinct noes) (noneListed yeses noes) whole in
+      let front = and-true (distinct yeses && distinct noes) (eachListed false yeses noes) whole in
       let both = and-true (distinct yeses) (distinct noes) (front .0) in
       (both .0, both .1, front .1)
 
@@ -77,8 +77,8 @@ module _ (yeses noes waited : List ℕ) (x : ℕ) (fits : (allListed (yeses ++ n
   unfolding distinct listed
   longer-apart l d fresh = rw (distinct-append l (x ∷ []), d, none-of-one x l fresh)
 
-  one-apart : noneListed (x ∷ []) noes ≡ true
-  unfolding noneListed
+  one-apart : eachListed false (x ∷ []) noes ≡ true
+  unfolding eachListed
   one-apart = rw fresh-no
 
   pub yes-fits : (allListed ((yeses ++ (x ∷ [])) ++ noes) waited && distinct ((yeses ++ (x ∷ [])) ++ noes)) ≡ true

@@ -1,7 +1,7 @@
 -- The test of refusal 2 in parts, as the code takes them: the header, each place, the ballots. specs/GoodLaws.antt shows that it is the test `isImage`.
 -- Assumes nothing.
 use mathlib.Core.Path.{_≡_}
-use mathlib.Core.Bool.{Bool, true, not, cond, _&&_}
+use mathlib.Core.Bool.{Bool, true, false, not, cond, _&&_}
 use mathlib.Core.List.{List, [], _∷_}
 use mathlib.Core.Option.{some}
 use Prim.Native.Nat.{ℕ, zero, suc, _+_, _*_, _≤_}
@@ -46,10 +46,15 @@ unfoldable pub placesGood : ℕ → List ℕ → ℕ → ℕ → Bool
 placesGood c a at zero = true
 placesGood c a at (suc n) = placeGood c (part a at placeBytes) && placesGood c a (at + placeBytes) n
 
--- none of the first stands in the second
-unfoldable pub noneListed : List ℕ → List ℕ → Bool
-noneListed [] l = true
-noneListed (x ∷ xs) l = not (listed x l) && noneListed xs l
+-- the test has the wanted outcome
+abbrev pub isWanted : Bool → Bool → Bool
+isWanted true t = t
+isWanted false t = not t
+
+-- each of the first stands in the second, or none of them does, as is wanted
+unfoldable pub eachListed : Bool → List ℕ → List ℕ → Bool
+eachListed w [] l = true
+eachListed w (x ∷ xs) l = isWanted w (listed x l) && eachListed w xs l
 
 -- ---- for the functions below
 

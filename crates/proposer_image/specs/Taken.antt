@@ -1,7 +1,7 @@
 -- The tests of a pending request by the struct that was taken out of its place.
 -- Assumes nothing.
 use mathlib.Core.Path.{_≡_, refl, sym, _∙_}
-use mathlib.Core.Bool.{true, not, _&&_}
+use mathlib.Core.Bool.{true, false, not, _&&_}
 use mathlib.Core.Bool as Booleans
 use mathlib.Core.List.{List}
 use mathlib.Core.Option.{Option, none, some}
@@ -16,10 +16,10 @@ use Rattle.messages.specs.Answers.{bytesOf, entries}
 use Rattle.proposer_rules.specs.State.{Pending, keyOf}
 use Rattle.proposer_place.specs.declared.front.Front.{Front}
 use Rattle.proposer_place.specs.Front.{frontOf}
-use Rattle.proposer_place.specs.Area.{waitedAt, yesAt, noAt, firstValue, secondValue, readPending, sizesFit, answersFit, distinct, allListed}
+use Rattle.proposer_place.specs.Area.{waitedAt, yesAt, noAt, firstValue, secondValue, readPending, sizesFit, answersFit, distinct}
 use Rattle.proposer_place.specs.Rows.{entries-length}
-use Rattle.proposer_image.specs.Good.{TakenFrom, noneListed}
-use Rattle.proposer_image.specs.Lists.{all-listed-append, distinct-append}
+use Rattle.proposer_image.specs.Good.{TakenFrom, eachListed}
+use Rattle.proposer_image.specs.Lists.{each-listed, all-listed-append, distinct-append}
 
 -- ---- the lists
 
@@ -57,9 +57,9 @@ sizes-taken b f taken = sizes-by-front (readPending b) f (taken .front) ∙ rw (
 
 -- ---- the answers
 
-pub answers-taken : (b : List ℕ) (f : Front) → TakenFrom b f → answersFit (readPending b) ≡ ((allListed (entries b yesAt (f .«acks_from»)) (entries b waitedAt (f .«waiting_for»)) && allListed (entries b noAt (f .«nacks_from»)) (entries b waitedAt (f .«waiting_for»))) && (distinct (entries b yesAt (f .«acks_from»)) && distinct (entries b noAt (f .«nacks_from»)) && noneListed (entries b yesAt (f .«acks_from»)) (entries b noAt (f .«nacks_from»))))
+pub answers-taken : (b : List ℕ) (f : Front) → TakenFrom b f → answersFit (readPending b) ≡ ((eachListed true (entries b yesAt (f .«acks_from»)) (entries b waitedAt (f .«waiting_for»)) && eachListed true (entries b noAt (f .«nacks_from»)) (entries b waitedAt (f .«waiting_for»))) && (distinct (entries b yesAt (f .«acks_from»)) && distinct (entries b noAt (f .«nacks_from»)) && eachListed false (entries b yesAt (f .«acks_from»)) (entries b noAt (f .«nacks_from»))))
 unfolding answersFit
-answers-taken b f taken = rw (waited-taken b f taken, yes-taken b f taken, no-taken b f taken, all-listed-append, distinct-append)
+answers-taken b f taken = rw (waited-taken b f taken, yes-taken b f taken, no-taken b f taken, all-listed-append, each-listed, each-listed, distinct-append)
 
 -- what sizes that fit say
 pub record ShortFront (f : Front) : Type 0 where

@@ -1,9 +1,8 @@
 // Whether an area is the image of a state that may be lent: the test of refusal 2.
 mod entries;
 
-use entries::all_listed;
 use entries::distinct;
-use entries::none_listed;
+use entries::each_listed;
 use entries::none_zero;
 use messages::KEY_MOST;
 use messages::LIST_MOST;
@@ -137,10 +136,10 @@ fn answers_fit(b: &[u8], f: Front) -> bool
     requires { ⌜ (TakenFrom (now b) f) × (sizesFit (readPending (now b)) ≡ true) ⌝ }
     ensures { λ r. ⌜ r ≡ answersFit (readPending (now (b .entry))) ⌝ }
 {
-    if !all_listed(b, YES, f.acks_from, WAITED, f.waiting_for) {
+    if !each_listed(b, YES, f.acks_from, WAITED, f.waiting_for, true) {
         return false;
     }
-    if !all_listed(b, NO, f.nacks_from, WAITED, f.waiting_for) {
+    if !each_listed(b, NO, f.nacks_from, WAITED, f.waiting_for, true) {
         return false;
     }
     if !distinct(b, YES, f.acks_from) {
@@ -149,7 +148,7 @@ fn answers_fit(b: &[u8], f: Front) -> bool
     if !distinct(b, NO, f.nacks_from) {
         return false;
     }
-    none_listed(b, YES, f.acks_from, NO, f.nacks_from)
+    each_listed(b, YES, f.acks_from, NO, f.nacks_from, false)
 }
 
 // Promised ballot 0 has no value.
