@@ -1,2 +1,2 @@
-pub mod Counts
-pub mod Words
+pub mod Read
+pub mod Steps

@@ -1,17 +1,17 @@
 // A line of a script: which step it is, and its bytes in lent buffers.
-use super::message::Message;
-use super::message::read_message;
-use super::places::Places;
-use super::places::no_places;
-use super::places::places_of;
-use super::places::poke_places;
-use super::places::start_places;
+use leaf_fields::same;
 use messages::Address;
 use messages::Rpc;
+use script_message::Message;
+use script_message::Places;
+use script_message::no_places;
+use script_message::places_of;
+use script_message::poke_places;
+use script_message::read_message;
+use script_message::start_places;
 use script_words::Number;
 use script_words::Sender;
 use script_words::Words;
-use script_words::is;
 use script_words::is_bytes;
 use script_words::is_list;
 use script_words::read_address;
@@ -20,8 +20,24 @@ use script_words::read_number;
 use script_words::split;
 use script_words::unhex;
 use script_words::word;
-ghost use Prim.Native.Nat.{_≤_};
-ghost use lib.ListN.{length};
+ghost use mathlib.Core.Path.{_≡_};
+ghost use Rattle.script_words.specs.Text.{numberOf, addressOf, bytesWord, listWord};
+ghost use Rattle.script_words.specs.Split.{wordAt};
+ghost use Rattle.script_message.specs.Messages.{messageIn};
+ghost use Rattle.script.specs.Steps.{
+  acceptorBy,
+  proposerBy,
+  clockBy,
+  lendBy,
+  pokeBy,
+  tickBy,
+  sentBy,
+  ofWords,
+  lentIn,
+  stepIn,
+  stepWords,
+};
+ghost use Rattle.script.specs.Read.{isPassed, Read};
 
 pub enum Step {
     // an empty line or a remark
@@ -54,7 +70,9 @@ pub struct Line {
     pub list: usize,
 }
 
-fn read_acceptor(line: &[u8], words: Words) -> Step {
+fn read_acceptor(line: &[u8], words: Words) -> Step
+    ensures { λ r. ⌜ r ≡ ofWords (words .n) 2 (acceptorBy (numberOf (wordAt (now (line .entry)) words 1))) ⌝ }
+{
     if words.n != 2 {
         return Step::Unreadable;
     }
@@ -64,7 +82,9 @@ fn read_acceptor(line: &[u8], words: Words) -> Step {
     Step::Acceptor(registers as usize)
 }
 
-fn read_proposer(line: &[u8], words: Words) -> Step {
+fn read_proposer(line: &[u8], words: Words) -> Step
+    ensures { λ r. ⌜ r ≡ ofWords (words .n) 4 (proposerBy (numberOf (wordAt (now (line .entry)) words 1)) (numberOf (wordAt (now (line .entry)) words 2)) (listWord (wordAt (now (line .entry)) words 3))) ⌝ }
+{
     if words.n != 4 {
         return Step::Unreadable;
     }
@@ -80,7 +100,9 @@ fn read_proposer(line: &[u8], words: Words) -> Step {
     Step::Proposer(places as usize, timeout)
 }
 
-fn read_clock(line: &[u8], words: Words) -> Step {
+fn read_clock(line: &[u8], words: Words) -> Step
+    ensures { λ r. ⌜ r ≡ ofWords (words .n) 2 (clockBy (numberOf (wordAt (now (line .entry)) words 1))) ⌝ }
+{
     if words.n != 2 {
         return Step::Unreadable;
     }
@@ -90,7 +112,9 @@ fn read_clock(line: &[u8], words: Words) -> Step {
     Step::Clock(time)
 }
 
-fn read_lend(line: &[u8], words: Words) -> Step {
+fn read_lend(line: &[u8], words: Words) -> Step
+    ensures { λ r. ⌜ r ≡ ofWords (words .n) 4 (lendBy (numberOf (wordAt (now (line .entry)) words 1)) (numberOf (wordAt (now (line .entry)) words 2)) (numberOf (wordAt (now (line .entry)) words 3))) ⌝ }
+{
     if words.n != 4 {
         return Step::Unreadable;
     }
@@ -110,7 +134,9 @@ fn read_lend(line: &[u8], words: Words) -> Step {
     }
 }
 
-fn read_poke(line: &[u8], words: Words) -> Step {
+fn read_poke(line: &[u8], words: Words) -> Step
+    ensures { λ r. ⌜ r ≡ ofWords (words .n) 3 (pokeBy (numberOf (wordAt (now (line .entry)) words 1)) (bytesWord (wordAt (now (line .entry)) words 2))) ⌝ }
+{
     if words.n != 3 {
         return Step::Unreadable;
     }
@@ -123,7 +149,9 @@ fn read_poke(line: &[u8], words: Words) -> Step {
     Step::Poke(at as usize)
 }
 
-fn read_tick(line: &[u8], words: Words) -> Step {
+fn read_tick(line: &[u8], words: Words) -> Step
+    ensures { λ r. ⌜ r ≡ ofWords (words .n) 2 (tickBy (numberOf (wordAt (now (line .entry)) words 1))) ⌝ }
+{
     if words.n != 2 {
         return Step::Unreadable;
     }
@@ -134,14 +162,18 @@ fn read_tick(line: &[u8], words: Words) -> Step {
 }
 
 // `table` and `area` stand alone.
-fn read_alone(words: Words, step: Step) -> Step {
+fn read_alone(words: Words, step: Step) -> Step
+    ensures { λ r. ⌜ r ≡ ofWords (words .n) 1 step ⌝ }
+{
     if words.n != 1 {
         return Step::Unreadable;
     }
     step
 }
 
-fn read_sent(line: &[u8], words: Words) -> Step {
+fn read_sent(line: &[u8], words: Words) -> Step
+    ensures { λ r. ⌜ r ≡ sentBy (addressOf (wordAt (now (line .entry)) words 0)) (messageIn (wordAt (now (line .entry)) words) (words .n)) ⌝ }
+{
     let Sender::Good(from) = read_address(word(line, words, 0)) else {
         return Step::Unreadable;
     };
@@ -151,36 +183,47 @@ fn read_sent(line: &[u8], words: Words) -> Step {
     Step::Message(from, rpc)
 }
 
-fn read_step(line: &[u8], words: Words) -> Step {
-    let name = word(line, words, 0);
-    if is(name, b"tick") {
-        return read_tick(line, words);
-    }
-    if is(name, b"acceptor") {
-        return read_acceptor(line, words);
-    }
-    if is(name, b"proposer") {
-        return read_proposer(line, words);
-    }
-    if is(name, b"clock") {
-        return read_clock(line, words);
-    }
-    if is(name, b"lend") {
+// A step on the lent table and answer area, by its name, or a message.
+fn read_lent(line: &[u8], words: Words, name: &[u8]) -> Step
+    ensures { λ r. ⌜ r ≡ lentIn (now (name .entry)) (wordAt (now (line .entry)) words) (words .n) ⌝ }
+{
+    if same(name, b"lend") {
         return read_lend(line, words);
     }
-    if is(name, b"poke") {
+    if same(name, b"poke") {
         return read_poke(line, words);
     }
-    if is(name, b"table") {
+    if same(name, b"table") {
         return read_alone(words, Step::Table);
     }
-    if is(name, b"area") {
+    if same(name, b"area") {
         return read_alone(words, Step::Area);
     }
     read_sent(line, words)
 }
 
-fn step_places(step: Step) -> Places {
+fn read_step(line: &[u8], words: Words) -> Step
+    ensures { λ r. ⌜ r ≡ stepIn (wordAt (now (line .entry)) words) (words .n) ⌝ }
+{
+    let name = word(line, words, 0);
+    if same(name, b"tick") {
+        return read_tick(line, words);
+    }
+    if same(name, b"acceptor") {
+        return read_acceptor(line, words);
+    }
+    if same(name, b"proposer") {
+        return read_proposer(line, words);
+    }
+    if same(name, b"clock") {
+        return read_clock(line, words);
+    }
+    read_lent(line, words, name)
+}
+
+fn step_places(step: Step) -> Places
+    ensures { λ r. ⌜ r ≡ stepWords step ⌝ }
+{
     match step {
         Step::Pass => no_places(),
         Step::Acceptor(_) => no_places(),
@@ -201,7 +244,9 @@ fn step_places(step: Step) -> Places {
 }
 
 // Whether a line is no step: empty, or a remark.
-fn is_passed(line: &[u8]) -> bool {
+fn is_passed(line: &[u8]) -> bool
+    ensures { λ r. ⌜ r ≡ isPassed (now (line .entry)) ⌝ }
+{
     if line.len() == 0 {
         return true;
     }
@@ -210,7 +255,7 @@ fn is_passed(line: &[u8]) -> bool {
 
 // A line's step, and its bytes and numbers at the fronts of the lent buffers.
 pub fn read(line: &[u8], bytes: &mut [u8], list: &mut [u16]) -> Line
-    ensures { λ r. ⌜ (r .key ≤ r .value) × (r .value ≤ r .other) × (r .other ≤ length (now (bytes .exit))) × (r .list ≤ length (now (list .exit))) ⌝ }
+    ensures { λ r. ⌜ Read (now (line .entry)) (now (bytes .entry)) (now (list .entry)) r (now (bytes .exit)) (now (list .exit)) ⌝ }
 {
     if is_passed(line) {
         return Line {

@@ -1,10 +1,11 @@
--- The words of a script: where a byte stands, when two words are the same, the number and the address that a word is, and when it stands for bytes or a list.
+-- The words of a script: where a byte stands, the number and the address that a word is, when it stands for bytes or a list, and for which.
 -- Assumes nothing.
 use mathlib.Core.Bool.{Bool, true, false, cond, _&&_, _||_}
 use mathlib.Core.List.{List, [], _∷_}
 use Prim.Native.Nat.{ℕ, zero, suc, _+_, _-_, _*_, _%_, _^_}
 use lib.Dec.{eqb, ltb, leb}
 use lib.ListN.{length, take, drop}
+use Rattle.leaf_fields.specs.Fields.{same}
 use Rattle.script_words.specs.declared.number.Number.{Number}
 use Rattle.script_words.specs.declared.number.Sender.{Sender}
 
@@ -13,12 +14,9 @@ unfoldable pub upTo : ℕ → List ℕ → ℕ
 upTo b [] = 0
 upTo b (x ∷ l) = cond (eqb x b) 0 (suc (upTo b l))
 
--- the same bytes in the same order
-unfoldable pub alike : List ℕ → List ℕ → Bool
-alike [] [] = true
-alike [] (y ∷ m) = false
-alike (x ∷ l) [] = false
-alike (x ∷ l) (y ∷ m) = eqb x y && alike l m
+-- what stands before the first space
+abbrev pub firstWord : List ℕ → List ℕ
+firstWord l = take (upTo 32 l) l
 
 -- `0` to `9`
 abbrev pub isDigit : ℕ → Bool
@@ -64,9 +62,9 @@ unhexed [] = []
 unhexed (a ∷ []) = []
 unhexed (a ∷ b ∷ l) = (hexValue a * 16 + hexValue b) ∷ unhexed l
 
--- the bytes that a word stands for; none for the empty word
-abbrev pub bytesOf : List ℕ → List ℕ
-bytesOf w = unhexed (drop 1 w)
+-- the bytes that a word stands for; none for the empty word, and none for one that has digits for more than 600
+unfoldable pub bytesOf : List ℕ → List ℕ
+bytesOf w = cond (ltb 1201 (length w)) [] (unhexed (drop 1 w))
 
 abbrev pub isGood : Sender → Bool
 isGood Sender.Bad = false
@@ -80,4 +78,18 @@ listFrom (suc n) w =
 
 -- `-`, or one to 32 numbers
 unfoldable pub listWord : List ℕ → Bool
-listWord w = alike w (45 ∷ []) || listFrom 32 w
+listWord w = same w (45 ∷ []) || listFrom 32 w
+
+abbrev pub entryBefore : Sender → List ℕ → List ℕ
+entryBefore Sender.Bad rest = []
+entryBefore (Sender.Good a) rest = a .0 ∷ rest
+
+-- the first n numbers of a list's word; what is no number ends them
+unfoldable pub numbersFrom : ℕ → List ℕ → List ℕ
+numbersFrom zero w = []
+numbersFrom (suc n) w =
+    entryBefore (addressOf (take (upTo 44 w) w)) (cond (leb (length w) (upTo 44 w)) [] (numbersFrom n (drop (suc (upTo 44 w)) w)))
+
+-- the numbers that a word stands for, at most 32; none for `-` and for the empty word
+unfoldable pub listOf : List ℕ → List ℕ
+listOf w = numbersFrom 32 w

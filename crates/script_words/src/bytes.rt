@@ -75,12 +75,16 @@ pub fn is_bytes(word: &[u8]) -> bool
     all_hex(&word[1..])
 }
 
-// The bytes that a word stands for, put into a buffer from a place on as far as it reaches; the place behind. None for the empty word.
+// The bytes that a word stands for, put into a buffer from a place on as far as it reaches; the place behind. None for the empty word, and
+// none for one that is too long.
 pub fn unhex(word: &[u8], out: &mut [u8], at: usize) -> usize
     ensures { λ r. ⌜ (r ≤ length (now (out .exit))) × (r ≡ behind (now (out .entry)) at (length (bytesOf (now (word .entry))))) × (now (out .exit) ≡ written (now (out .entry)) at (bytesOf (now (word .entry)))) ⌝ }
 {
     if out.len() < at {
         return out.len();
+    }
+    if 2 * BYTES_MOST + 1 < word.len() {
+        return at;
     }
     let mut p = at;
     let mut i = 1;

@@ -22,7 +22,6 @@ pub use put::put_number;
 pub use put::put_text;
 pub use words::WORDS_MOST;
 pub use words::Words;
-pub use words::is;
 pub use words::place_of;
 pub use words::split;
 pub use words::word;

@@ -1,12 +1,12 @@
 // Lists in a script: `-`, or numbers with commas between them.
 use super::number::Sender;
 use super::number::read_address;
-use super::words::is;
 use super::words::place_of;
 ghost use mathlib.Core.Path.{_≡_};
-ghost use Prim.Native.Nat.{_≤_};
 ghost use lib.ListN.{length};
-ghost use Rattle.script_words.specs.Text.{addressOf, isGood, listWord};
+ghost use lib.Seq.{sets};
+ghost use Rattle.script_words.specs.Text.{addressOf, isGood, listWord, listOf};
+ghost use Rattle.script_words.specs.Written.{behind};
 
 // The most numbers that one list can give.
 pub const LIST_ROOM: usize = 32;
@@ -25,7 +25,7 @@ fn is_entry(word: &[u8]) -> bool
 pub fn is_list(word: &[u8]) -> bool
     ensures { λ r. ⌜ r ≡ listWord (now (word .entry)) ⌝ }
 {
-    if is(word, b"-") {
+    if leaf_fields::same(word, b"-") {
         return true;
     }
     let mut n = 0;
@@ -46,11 +46,14 @@ pub fn is_list(word: &[u8]) -> bool
 
 // The numbers of a list, stored at the front of a buffer as far as it reaches; how many.
 pub fn read_list(word: &[u8], out: &mut [u16]) -> usize
-    ensures { λ r. ⌜ (r ≤ length (now (out .exit))) × (length (now (out .exit)) ≡ length (now (out .entry))) ⌝ }
+    ensures { λ r. ⌜ (r ≡ behind (now (out .entry)) 0 (length (listOf (now (word .entry))))) × (now (out .exit) ≡ sets (now (out .entry)) 0 (listOf (now (word .entry)))) ⌝ }
 {
     let mut n = 0;
     let mut from = 0;
-    while n < out.len() {
+    while n < LIST_ROOM {
+        if out.len() <= n {
+            return n;
+        }
         let to = place_of(word, from, b',');
         let Sender::Good(a) = read_address(&word[from..to]) else {
             return n;

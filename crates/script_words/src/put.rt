@@ -2,12 +2,10 @@
 // place stays within the buffer.
 ghost use mathlib.Core.Path.{_≡_};
 ghost use mathlib.Core.List.{[], _∷_};
-ghost use Prim.Native.Nat.{_≤_, _*_};
-ghost use lib.ListN.{length};
-ghost use Rattle.script_words.specs.Written.{written, behind, hexDigit, hexOf, decimal};
+ghost use Rattle.script_words.specs.Written.{Put, hexDigit, hexOf, decimal};
 
 pub fn put_text(out: &mut [u8], at: usize, text: &[u8]) -> usize
-    ensures { λ r. ⌜ (r ≤ length (now (out .exit))) × (r ≡ behind (now (out .entry)) at (length (now (text .entry)))) × (now (out .exit) ≡ written (now (out .entry)) at (now (text .entry))) ⌝ }
+    ensures { λ r. ⌜ Put (now (out .entry)) at (now (text .entry)) r (now (out .exit)) ⌝ }
 {
     if out.len() < at {
         return out.len();
@@ -26,7 +24,7 @@ pub fn put_text(out: &mut [u8], at: usize, text: &[u8]) -> usize
 }
 
 pub fn put_byte(out: &mut [u8], at: usize, b: u8) -> usize
-    ensures { λ r. ⌜ (r ≤ length (now (out .exit))) × (r ≡ behind (now (out .entry)) at (1)) × (now (out .exit) ≡ written (now (out .entry)) at (b ∷ [])) ⌝ }
+    ensures { λ r. ⌜ Put (now (out .entry)) at (b ∷ []) r (now (out .exit)) ⌝ }
 {
     if out.len() <= at {
         return out.len();
@@ -37,7 +35,7 @@ pub fn put_byte(out: &mut [u8], at: usize, b: u8) -> usize
 
 // In decimal, with no zeros in front.
 pub fn put_number(out: &mut [u8], at: usize, n: u64) -> usize
-    ensures { λ r. ⌜ (r ≤ length (now (out .exit))) × (r ≡ behind (now (out .entry)) at (length (decimal n))) × (now (out .exit) ≡ written (now (out .entry)) at (decimal n)) ⌝ }
+    ensures { λ r. ⌜ Put (now (out .entry)) at (decimal n) r (now (out .exit)) ⌝ }
 {
     let mut digits = [b'0'; 20];
     let mut rest = n;
@@ -67,7 +65,7 @@ fn hex_digit(n: u8) -> u8
 
 // Two hex digits for a byte.
 fn put_hex_byte(out: &mut [u8], at: usize, b: u8) -> usize
-    ensures { λ r. ⌜ (r ≤ length (now (out .exit))) × (r ≡ behind (now (out .entry)) at 2) × (now (out .exit) ≡ written (now (out .entry)) at (hexOf (b ∷ []))) ⌝ }
+    ensures { λ r. ⌜ Put (now (out .entry)) at (hexOf (b ∷ [])) r (now (out .exit)) ⌝ }
 {
     let p = put_byte(out, at, hex_digit(b / 16));
     put_byte(out, p, hex_digit(b % 16))
@@ -75,7 +73,7 @@ fn put_hex_byte(out: &mut [u8], at: usize, b: u8) -> usize
 
 // Two hex digits for each byte.
 pub fn put_hex(out: &mut [u8], at: usize, bytes: &[u8]) -> usize
-    ensures { λ r. ⌜ (r ≤ length (now (out .exit))) × (r ≡ behind (now (out .entry)) at (2 * length (now (bytes .entry)))) × (now (out .exit) ≡ written (now (out .entry)) at (hexOf (now (bytes .entry)))) ⌝ }
+    ensures { λ r. ⌜ Put (now (out .entry)) at (hexOf (now (bytes .entry))) r (now (out .exit)) ⌝ }
 {
     let mut p = at;
     let mut i = 0;

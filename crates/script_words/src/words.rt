@@ -2,7 +2,8 @@
 ghost use mathlib.Core.Path.{_≡_};
 ghost use Prim.Native.Nat.{_+_, _≤_};
 ghost use lib.ListN.{length, drop};
-ghost use Rattle.script_words.specs.Text.{upTo, alike};
+ghost use Rattle.script_words.specs.Text.{upTo};
+ghost use Rattle.script_words.specs.Split.{noWords, wordAt, Split};
 
 // The most words that a line has: `FROM ProposeRes BALLOT BALLOT OPT Err ERROR BALLOT`.
 pub const WORDS_MOST: usize = 8;
@@ -30,7 +31,7 @@ pub fn place_of(s: &[u8], from: usize, b: u8) -> usize
 }
 
 fn no_words() -> Words
-    ensures { λ r. ⌜ r .n ≡ 0 ⌝ }
+    ensures { λ r. ⌜ r ≡ noWords ⌝ }
 {
     Words {
         n: 0,
@@ -41,7 +42,7 @@ fn no_words() -> Words
 
 // The words of a line. None where a word is empty, as in a line with two spaces in a row, or where there are more than eight.
 pub fn split(line: &[u8]) -> Words
-    ensures { λ r. ⌜ r .n ≤ 8 ⌝ }
+    ensures { λ r. ⌜ Split (now (line .entry)) r ⌝ }
 {
     let mut from = [0usize; 8];
     let mut to = [0usize; 8];
@@ -65,7 +66,7 @@ pub fn split(line: &[u8]) -> Words
 
 // Word i of a line; the empty word where it has none.
 pub fn word(line: &[u8], words: Words, i: usize) -> &[u8]
-    ensures { λ r. ⌜ length (now r) ≤ length (now (line .entry)) ⌝ }
+    ensures { λ r. ⌜ now r ≡ wordAt (now (line .entry)) words i ⌝ }
 {
     if WORDS_MOST <= i {
         return &line[0..0];
@@ -79,21 +80,4 @@ pub fn word(line: &[u8], words: Words, i: usize) -> &[u8]
         return &line[0..0];
     }
     &line[a..e]
-}
-
-// Whether a word is this one.
-pub fn is(word: &[u8], text: &[u8]) -> bool
-    ensures { λ r. ⌜ r ≡ alike (now (word .entry)) (now (text .entry)) ⌝ }
-{
-    if word.len() != text.len() {
-        return false;
-    }
-    let mut i = 0;
-    while i < word.len() {
-        if word[i] != text[i] {
-            return false;
-        }
-        i += 1;
-    }
-    true
 }

@@ -1,28 +1,34 @@
--- `run_script::run_lines` is safe and ends. The loop's invariant: what is lent, read and written is within the buffers, whose lengths stay. The measure is the lines that are left of the most that are counted.
+-- `run_script::run_lines` is safe and ends. The loop's invariant: what is lent and written is within the buffers, whose lengths stay. The measure is the lines that are left of the most that are counted.
 -- Assumes nothing.
-use mathlib.Core.Path.{_≡_}
-use Prim.Native.Nat.{_-_}
+use mathlib.Core.Path.{_≡_, refl}
+use mathlib.Core.List.{List}
+use Prim.Native.Nat.{ℕ, _-_}
 use lib.ListN.{length}
-use Rattle.run_script.specs.Held.{Held}
+use Rattle.script_run.specs.declared.run.Run.{Run}
+use Rattle.script_run.specs.Run.{fresh}
+use Rattle.script_run.specs.Obeyed.{Held}
+use native.Mathlib.Omega.{arith}
 use borrow.Author.Needs.{needs}
 use Rattle.run_script.proofs.run_lines.Statement.{statement}
 use Rattle.run_script.proofs.run_lines.Tie as tie
 
 abbrev Inv-loop : tie.InvT-loop
-Inv-loop table₀ area₀ bytes₀ list₀ buf₀ out₀ s₀ line₀ table area bytes list buf out s line =
-    (Held s table area out) × (length table ≡ length table₀) × (length area ≡ length area₀) × (length bytes ≡ length bytes₀)
+Inv-loop table₀ area₀ bytes₀ list₀ buf₀ out₀ r₀ line₀ table area bytes list buf out r line =
+    (Held (r .run) table area out) × (length table ≡ length table₀) × (length area ≡ length area₀) × (length bytes ≡ length bytes₀)
     × (length list ≡ length list₀) × (length buf ≡ length buf₀)
     × (length out ≡ length out₀)
 
 abbrev μ-loop : tie.MeasureT-loop
-μ-loop table₀ area₀ bytes₀ list₀ buf₀ out₀ s₀ line₀ table area bytes list buf out s line =
-    1099511627776 - line
+μ-loop table₀ area₀ bytes₀ list₀ buf₀ out₀ r₀ line₀ table area bytes list buf out r line = 1099511627776 - line
+
+nothing-yet : (s : Run) (table area out : List ℕ) → s ≡ fresh → Held s table area out
+nothing-yet s table area out e = rw e (omega arith, omega arith, omega arith, omega arith)
 
 new-requires : tie.Need-new-requires Inv-loop μ-loop
 new-requires c κs = search needs
 
 loop-holds : tie.Need-loop-holds Inv-loop μ-loop
-loop-holds c = search needs
+loop-holds c = (search nothing-yet, refl, refl, refl, refl, refl, refl)
 
 add-line : tie.Need-add-line Inv-loop μ-loop
 add-line c = search needs
@@ -48,9 +54,6 @@ same-length-4 c = search needs
 same-length-5 : tie.Need-same-length-5 Inv-loop μ-loop
 same-length-5 c = search needs
 
-same-length-6 : tie.Need-same-length-6 Inv-loop μ-loop
-same-length-6 c = search needs
-
 returns : tie.Need-returns Inv-loop μ-loop
 returns c = search needs
 
@@ -59,6 +62,9 @@ loop-less c = search needs
 
 loop-again : tie.Need-loop-again Inv-loop μ-loop
 loop-again c = search needs
+
+same-length-6 : tie.Need-same-length-6 Inv-loop μ-loop
+same-length-6 c = search needs
 
 same-length-7 : tie.Need-same-length-7 Inv-loop μ-loop
 same-length-7 c = search needs
@@ -71,12 +77,6 @@ same-length-9 c = search needs
 
 same-length-10 : tie.Need-same-length-10 Inv-loop μ-loop
 same-length-10 c = search needs
-
-same-length-11 : tie.Need-same-length-11 Inv-loop μ-loop
-same-length-11 c = search needs
-
-same-length-12 : tie.Need-same-length-12 Inv-loop μ-loop
-same-length-12 c = search needs
 
 returns-2 : tie.Need-returns-2 Inv-loop μ-loop
 returns-2 c = search needs
@@ -97,14 +97,12 @@ run-lines-spec =
     same-length-3
     same-length-4
     same-length-5
-    same-length-6
     returns
     loop-less
     loop-again
+    same-length-6
     same-length-7
     same-length-8
     same-length-9
     same-length-10
-    same-length-11
-    same-length-12
     returns-2)

@@ -6,8 +6,10 @@ use Prim.Native.Nat.{ℕ, suc, _+_, _-_, _*_, _≤_, _<_}
 use native.Mathlib.Numerals.{add-one}
 use lib.ListN.{length, length-set, length-drop, getD, drop, set}
 use lib.Seq.{sets, drop-cons}
+use borrow.Author.Tests.{lt-ltb, le-ltb}
 use Rattle.script_words.specs.Text.{hexValue, unhexed, bytesOf}
-use Rattle.script_words.specs.Written.{written, behind, sets-past}
+use Rattle.script_words.specs.Written.{written, behind}
+use Rattle.script_words.specs.WrittenLaws.{sets-past}
 use borrow.Author.Needs.{needs}
 use native.Mathlib.Omega.{arith}
 use Rattle.script_words.proofs.bytes.unhex.Statement.{statement}
@@ -20,6 +22,29 @@ Inv-loop word out₀ at p₀ i₀ out p i =
 
 abbrev μ-loop : tie.MeasureT-loop
 μ-loop word out₀ at p₀ i₀ out p i = length out - p
+
+fits : (w : List ℕ) → length w ≤ 1201 → bytesOf w ≡ unhexed (drop 1 w)
+unfolding bytesOf
+fits w h = rw (le-ltb 1201 (length w) h)
+
+too-long : (w : List ℕ) → 1201 < length w → bytesOf w ≡ []
+unfolding bytesOf
+too-long w h = rw (lt-ltb 1201 (length w) h)
+
+nothing : (out w : List ℕ) (at : ℕ) → 1201 < length w → out ≡ written out at (bytesOf w)
+unfolding written
+nothing out w at h = rw (too-long w h)
+
+none-behind : (out w : List ℕ) (at : ℕ) → at ≤ length out → 1201 < length w → at ≡ behind out at (length (bytesOf w))
+none-behind out w at l h =
+    let z : length (bytesOf w) ≡ 0 = ap length (too-long w h) in
+    omega arith
+
+begin : (w : List ℕ) (at : ℕ) → length w ≤ 1201 → at + length (unhexed (drop 1 w)) ≡ at + length (bytesOf w)
+begin w at h = rw (fits w h)
+
+begin-bytes : (out w : List ℕ) (at : ℕ) → length w ≤ 1201 → sets out at (unhexed (drop 1 w)) ≡ sets out at (bytesOf w)
+begin-bytes out w at h = rw (fits w h)
 
 short : (l : List ℕ) → length l < 2 → unhexed l ≡ []
 unfolding unhexed
@@ -77,23 +102,32 @@ turn out r w i at a b h k ea eb e = rw (ea, eb, add-one i) (rw (pair w at (omega
 returns : tie.Need-returns Inv-loop μ-loop
 returns c = (search needs, omega arith, search outside)
 
+mul-if2 : tie.Need-mul-if2 Inv-loop μ-loop
+mul-if2 c = search needs
+
+add-if2 : tie.Need-add-if2 Inv-loop μ-loop
+add-if2 c = search needs
+
+returns-2 : tie.Need-returns-2 Inv-loop μ-loop
+returns-2 c = (search needs, search none-behind, search nothing)
+
 loop-holds : tie.Need-loop-holds Inv-loop μ-loop
-loop-holds c = (search needs, search needs, omega arith, refl)
+loop-holds c = (search needs, search needs, search begin, search begin-bytes)
 
 same-length : tie.Need-same-length Inv-loop μ-loop
 same-length c = search needs
 
-returns-2 : tie.Need-returns-2 Inv-loop μ-loop
-returns-2 c = (search needs, search count-past, search ends)
+returns-3 : tie.Need-returns-3 Inv-loop μ-loop
+returns-3 c = (search needs, search count-past, search ends)
 
-sub-if3 : tie.Need-sub-if3 Inv-loop μ-loop
-sub-if3 c = search needs
+sub-if4 : tie.Need-sub-if4 Inv-loop μ-loop
+sub-if4 c = search needs
 
 same-length-2 : tie.Need-same-length-2 Inv-loop μ-loop
 same-length-2 c = search needs
 
-returns-3 : tie.Need-returns-3 Inv-loop μ-loop
-returns-3 c = (search needs, search count, search ends-short)
+returns-4 : tie.Need-returns-4 Inv-loop μ-loop
+returns-4 c = (search needs, search count, search ends-short)
 
 shared-slice-read-hex-value : tie.Need-shared-slice-read-hex-value Inv-loop μ-loop
 shared-slice-read-hex-value c = search needs
@@ -134,8 +168,8 @@ loop-again c = (simp length-set (omega arith), simp length-set (omega arith), se
 same-length-3 : tie.Need-same-length-3 Inv-loop μ-loop
 same-length-3 c = search needs
 
-returns-4 : tie.Need-returns-4 Inv-loop μ-loop
-returns-4 c = (search needs, search full, search cut)
+returns-5 : tie.Need-returns-5 Inv-loop μ-loop
+returns-5 c = (search needs, search full, search cut)
 
 pub unhex-spec : {M : Type 1} → statement M
 unhex-spec =
@@ -144,12 +178,15 @@ unhex-spec =
     Inv-loop
     μ-loop
     returns
+    mul-if2
+    add-if2
+    returns-2
     loop-holds
     same-length
-    returns-2
-    sub-if3
-    same-length-2
     returns-3
+    sub-if4
+    same-length-2
+    returns-4
     shared-slice-read-hex-value
     hex-value-requires
     mul-out
@@ -163,4 +200,4 @@ unhex-spec =
     loop-less
     loop-again
     same-length-3
-    returns-4)
+    returns-5)

@@ -1,13 +1,14 @@
 -- `script_words::list::is_list` meets its contract. The loop's invariant: the entries passed were good, so what is left decides.
 -- Assumes nothing.
-use mathlib.Core.Path.{_≡_, sym, ap, ap₂, _∙_}
-use mathlib.Core.Bool.{Bool, true, false, _||_}
+use mathlib.Core.Path.{_≡_, sym, ap, _∙_}
+use mathlib.Core.Bool.{Bool, true, false}
 use mathlib.Core.List.{List, [], _∷_}
 use Prim.Native.Nat.{ℕ, suc, _+_, _-_, _≤_, _<_}
 use lib.ListN.{length, take, drop, length-drop}
 use lib.Seq.{drop-drop}
 use borrow.Author.Tests.{not-true, not-false, le-leb, lt-leb}
-use Rattle.script_words.specs.Text.{upTo, alike, addressOf, isGood, listFrom, listWord}
+use Rattle.leaf_fields.specs.Fields.{same}
+use Rattle.script_words.specs.Text.{upTo, addressOf, isGood, listFrom, listWord}
 use borrow.Author.Needs.{needs}
 use native.Mathlib.Omega.{arith}
 use Rattle.script_words.proofs.list.is_list.Statement.{statement}
@@ -20,11 +21,11 @@ Inv-loop word n₀ from₀ n from =
 abbrev μ-loop : tie.MeasureT-loop
 μ-loop word n₀ from₀ n from = 32 - n
 
-dash : (w : List ℕ) (t : Bool) → t ≡ alike w (45 ∷ []) → t ≡ true → true ≡ listWord w
+dash : (w : List ℕ) (t : Bool) → t ≡ same w (45 ∷ []) → t ≡ true → true ≡ listWord w
 unfolding listWord
 dash w t h f = rw (← h, f)
 
-begin : (w : List ℕ) (t : Bool) → t ≡ alike w (45 ∷ []) → t ≡ false → listWord w ≡ listFrom 32 w
+begin : (w : List ℕ) (t : Bool) → t ≡ same w (45 ∷ []) → t ≡ false → listWord w ≡ listFrom 32 w
 unfolding listWord
 begin w t h f = rw (← h, f)
 
@@ -60,11 +61,11 @@ full w v from n past e =
     let m : 32 - n ≡ 0 = omega arith in
     sym (e ∙ rw m)
 
-slice-aggregate-is : tie.Need-slice-aggregate-is Inv-loop μ-loop
-slice-aggregate-is c = search needs
+slice-aggregate-same : tie.Need-slice-aggregate-same Inv-loop μ-loop
+slice-aggregate-same c = search needs
 
-is-requires : tie.Need-is-requires Inv-loop μ-loop
-is-requires c κs = search needs
+same-requires : tie.Need-same-requires Inv-loop μ-loop
+same-requires c κs = search needs
 
 returns : tie.Need-returns Inv-loop μ-loop
 returns c = search dash
@@ -114,8 +115,8 @@ is-list-spec =
     (tie.spec
     Inv-loop
     μ-loop
-    slice-aggregate-is
-    is-requires
+    slice-aggregate-same
+    same-requires
     returns
     loop-holds
     place-of-requires

@@ -1,12 +1,12 @@
 -- `script_words::put::put_number` meets its contract. The loop's invariant: the digits that are left, before those in their places, are the number's.
 -- Assumes nothing.
-use mathlib.Core.Path.{_≡_, refl, sym, ap, _∙_}
+use mathlib.Core.Path.{_≡_, refl, ap, _∙_}
 use mathlib.Core.List.{List, [], _∷_}
 use Prim.Native.Nat.{ℕ, zero, suc, _+_, _-_, _/_, _%_, _≤_, _<_}
 use lib.ListN.{length, length-set, length-drop, take, drop, set, drop-of-length-le}
 use lib.Seq.{take-length}
 use borrow.Author.Tests.{lt-ltb, le-ltb}
-use Rattle.script_words.specs.Written.{written, behind, digitsBefore, decimal}
+use Rattle.script_words.specs.Written.{Put, digitsBefore, decimal}
 use borrow.Author.Needs.{needs}
 use native.Mathlib.Omega.{arith}
 use Rattle.script_words.proofs.put.put_number.Statement.{statement}
@@ -55,11 +55,8 @@ whole n rest zero m d h l lm w =
     rw (← q) (take-length d ∙ w)
 whole n rest (suc j) m d h l lm w = absurd (omega arith)
 
-place : (out₀ out t d : List ℕ) (at r : ℕ) → out ≡ out₀ → t ≡ d → r ≡ behind out at (length t) → r ≡ behind out₀ at (length d)
-place out₀ out t d at r eo et h = rw (← eo, ← et) h
-
-bytes : (out₀ out last t d : List ℕ) (at : ℕ) → out ≡ out₀ → t ≡ d → last ≡ written out at t → last ≡ written out₀ at d
-bytes out₀ out last t d at eo et h = rw (← eo, ← et) h
+digits-put : (out₀ out last t d : List ℕ) (at r : ℕ) → out ≡ out₀ → t ≡ d → Put out at t r last → Put out₀ at d r last
+digits-put out₀ out last t d at r eo et h = rw (← eo, ← et) h
 
 loop-holds : tie.Need-loop-holds Inv-loop μ-loop
 loop-holds c = (search needs, search needs, refl, search begin)
@@ -92,7 +89,7 @@ same-length : tie.Need-same-length Inv-loop μ-loop
 same-length c = search needs
 
 returns : tie.Need-returns Inv-loop μ-loop
-returns c = (search needs, search (place, text) depth 12, search (bytes, text) depth 12)
+returns c = search (digits-put, text) depth 12
 
 loop-less : tie.Need-loop-less Inv-loop μ-loop
 loop-less c = search needs
@@ -116,7 +113,7 @@ same-length-2 : tie.Need-same-length-2 Inv-loop μ-loop
 same-length-2 c = search needs
 
 returns-2 : tie.Need-returns-2 Inv-loop μ-loop
-returns-2 c = (search needs, search (place, whole) depth 12, search (bytes, whole) depth 12)
+returns-2 c = search (digits-put, whole) depth 12
 
 pub put-number-spec : {M : Type 1} → statement M
 put-number-spec =

@@ -2,11 +2,12 @@
 -- Assumes nothing.
 use mathlib.Core.Path.{_≡_, refl, sym, _∙_}
 use mathlib.Core.List.{List}
-use Prim.Native.Nat.{ℕ, suc, _+_, _-_, _≤_, _<_}
+use Prim.Native.Nat.{ℕ, _+_, _-_, _≤_, _<_}
 use native.Mathlib.Numerals.{add-one}
 use lib.ListN.{length, length-set, getD, drop, set, drop-of-length-le}
 use lib.Seq.{sets, drop-cons}
-use Rattle.script_words.specs.Written.{written, behind, sets-past}
+use Rattle.script_words.specs.Written.{written}
+use Rattle.script_words.specs.WrittenLaws.{sets-past}
 use borrow.Author.Needs.{needs}
 use native.Mathlib.Omega.{arith}
 use Rattle.script_words.proofs.put.put_text.Statement.{statement}
@@ -36,7 +37,7 @@ turn : (out text r : List ℕ) (p i : ℕ) → i < length text → sets out p (d
 turn out text r p i more e = rw (add-one p, add-one i) (rw (drop-cons text i 0 more) at e)
 
 returns : tie.Need-returns Inv-loop μ-loop
-returns c = (search needs, omega arith, search outside)
+returns c = record { within = search needs; place = omega arith; bytes = search outside }
 
 loop-holds : tie.Need-loop-holds Inv-loop μ-loop
 loop-holds c = (search needs, search needs, search needs, search needs, refl)
@@ -45,7 +46,7 @@ same-length : tie.Need-same-length Inv-loop μ-loop
 same-length c = search needs
 
 returns-2 : tie.Need-returns-2 Inv-loop μ-loop
-returns-2 c = (search needs, omega arith, search cut)
+returns-2 c = record { within = search needs; place = omega arith; bytes = search cut }
 
 shared-slice-read-out : tie.Need-shared-slice-read-out Inv-loop μ-loop
 shared-slice-read-out c = search needs
@@ -69,7 +70,7 @@ same-length-2 : tie.Need-same-length-2 Inv-loop μ-loop
 same-length-2 c = search needs
 
 returns-3 : tie.Need-returns-3 Inv-loop μ-loop
-returns-3 c = (search needs, omega arith, search all)
+returns-3 c = record { within = search needs; place = omega arith; bytes = search all }
 
 pub put-text-spec : {M : Type 1} → statement M
 put-text-spec =
