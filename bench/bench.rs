@@ -9,6 +9,7 @@ use std::time::{Duration, Instant, UNIX_EPOCH};
 const BATCH: u64 = 5_000;
 const VALUE: usize = 32;
 const ACCEPTORS: [u16; 3] = [1, 2, 3];
+const TIMEOUT: u64 = 1_000_000;
 
 /// What one side did: the time it took, and a sum over its answers.
 #[derive(Clone, Copy, Default)]
@@ -137,10 +138,10 @@ fn step(i: u64, pending: u64) -> (u64, u64) {
 /// Orders through a proposer with three acceptors, so many pending at a time: each is a request, two promises and two acceptances.
 fn proposers(keys: u64, pending: u64, all: u64) -> (Side, Side) {
     let (mut theirs, mut ours) = (Side::default(), Side::default());
-    let mut party = Proposer::new(1_000_000, ACCEPTORS.iter().map(|a| a.to_string()).collect());
+    let mut party = Proposer::new(TIMEOUT, ACCEPTORS.iter().map(|a| a.to_string()).collect());
     let places = pending as usize;
     let (mut area, mut sent) = (vec![0u8; port::area_bytes(places)], vec![0u8; port::proposer_sent(places)]);
-    port::proposer_start(&mut area, places, 1_000_000, &ACCEPTORS).expect("the start");
+    port::proposer_start(&mut area, places, TIMEOUT, &ACCEPTORS).expect("the start");
     let mut done = 0;
     while done < all {
         let batch: Vec<(u64, u64)> = (done..(done + BATCH).min(all)).map(|i| step(i, pending)).collect();
@@ -178,6 +179,11 @@ fn proposers(keys: u64, pending: u64, all: u64) -> (Side, Side) {
         progress(&format!("proposers, {} keys, {} pending", keys, pending), done, all);
     }
     eprintln!();
+    // outside the measured time: a tick in time tells nobody, and one behind it tells the clients of all that is left
+    for at in [TIMEOUT, TIMEOUT + 1] {
+        theirs.answers = mixed(theirs.answers, party.tick(UNIX_EPOCH + Duration::from_millis(at)).len() as u64);
+        ours.answers = mixed(ours.answers, port::proposer_tick(&mut area, places, at, &mut sent).expect("a tick").rows);
+    }
     (theirs, ours)
 }
 
