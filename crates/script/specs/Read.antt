@@ -39,7 +39,7 @@ otherOf line = bytesOf (nth (wordsOf line) (stepWords (stepOf line) .other))
 unfoldable pub numbersOf : List ℕ → List ℕ
 numbersOf line = listOf (nth (wordsOf line) (stepWords (stepOf line) .list))
 
--- a line read into lent buffers: the key, the value and the other value one behind the other, and the list's numbers
+-- a line read into lent buffers: the key, the value and the other value one behind the other, and the list's numbers. `order` follows from the rest, for callers
 pub record Read (line bytes list : List ℕ) (r : Line) (bytes′ list′ : List ℕ) : Type 0 where
   pub step : r .step ≡ stepOf line
   pub key-end : r .key ≡ behind bytes 0 (length (keyOf line))
