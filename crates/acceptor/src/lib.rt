@@ -1,4 +1,6 @@
 // The crate's acceptor.rs over a lent table. acceptor_rules/specs/Rules.antt has 01's section line by line, specs/Contract.antt what of it is promised.
+#![tactic(auto)]
+
 ghost use Rattle.std.specs.Prelude.{◌≡◌, true, cond, List, ℕ, ◌+◌, ◌*◌, ◌≤◌, length};
 ghost use Rattle.std.proofs.lemmas.List.Edits.{sets};
 ghost use Rattle.messages.specs.Message.{Message, given, message_of};

@@ -1,4 +1,6 @@
 // The acceptor's work on one block of a lent table, and its answers where no block holds the key and none is free.
+#![tactic(auto)]
+
 ghost use Rattle.std.specs.Prelude.{◌≡◌, true, cond, [], ◌≤◌, length};
 ghost use Rattle.std.proofs.lemmas.List.Edits.{sets};
 ghost use Rattle.messages.specs.Message.{given};

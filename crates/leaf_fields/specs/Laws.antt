@@ -43,7 +43,7 @@ pub bytes_take : (n : ℕ) (l : List ℕ) → Bytes l → Bytes (take n l)
 unfolding Bytes
 bytes_take zero l h = λ i. lit< tt
 bytes_take (suc n) [] h = λ i. lit< tt
-bytes_take (suc n) (b ∷ l) h = λ i. elim i [ zero ↦ h 0 | suc j ↦ bytes_take n l (λ k. h (suc k)) j ]
+bytes_take (suc n) (b ∷ l) h = λ i. elim i as (λ k. byte (take (suc n) (b ∷ l)) k < 256) [ zero ↦ h 0 | suc j ↦ bytes_take n l (λ k. h (suc k)) j ]
 
 pub bytes_drop : (n : ℕ) (l : List ℕ) → Bytes l → Bytes (drop n l)
 unfolding Bytes

@@ -11,12 +11,12 @@ bytes_none = λ i. lit< tt
 
 pub bytes_front : (b : ℕ) (l : List ℕ) → b < 256 → Bytes l → Bytes (b ∷ l)
 unfolding Bytes
-bytes_front b l hb h = λ i. elim i [ zero ↦ hb | suc j ↦ h j ]
+bytes_front b l hb h = λ i. elim i as (λ k. byte (b ∷ l) k < 256) [ zero ↦ hb | suc j ↦ h j ]
 
 pub bytes_append : (l m : List ℕ) → Bytes l → Bytes m → Bytes (l ++ m)
 unfolding Bytes
 bytes_append [] m hl hm = hm
-bytes_append (b ∷ l) m hl hm = λ i. elim i [ zero ↦ hl 0 | suc j ↦ bytes_append l m (λ k. hl (suc k)) hm j ]
+bytes_append (b ∷ l) m hl hm = λ i. elim i as (λ k. byte ((b ∷ l) ++ m) k < 256) [ zero ↦ hl 0 | suc j ↦ bytes_append l m (λ k. hl (suc k)) hm j ]
 
 pub bytes_zeros : (n : ℕ) → Bytes (replicate n 0)
 bytes_zeros zero = bytes_none

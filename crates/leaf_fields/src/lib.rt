@@ -1,4 +1,6 @@
 // Bytes: little-endian numbers of any width, copies, and runs of zeros. What the block, the area and later the frames are made of.
+#![tactic(auto)]
+
 ghost use Rattle.std.specs.Prelude.{◌≡◌, ◌+◌, ◌≤◌, ◌<◌, ◌^◌, length, replicate};
 ghost use Rattle.std.proofs.lemmas.List.Edits.{sets};
 ghost use Rattle.leaf_fields.specs.Fields.{from_le, to_le, part, all_zero, same};

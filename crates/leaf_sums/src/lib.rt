@@ -1,4 +1,6 @@
 // The two sums that close a register block, and later a frame, formed in one walk.
+#![tactic(auto)]
+
 ghost use Rattle.std.specs.Prelude.{◌≡◌, ◌≤◌, length};
 ghost use Rattle.leaf_sums.specs.Sums.{plain_sum, placed_sum};
 

@@ -1,4 +1,6 @@
 // Messages and answers in numbers, as callers in C and Rust pass and take them (include/mirkaspel.h).
+#![tactic(auto)]
+
 mod answer;
 mod head;
 

@@ -1,5 +1,7 @@
 // The parties' operations for callers in C and Rust, which include/mirkaspel.h declares: the same operations, with a message and an answer in
 // numbers. Any numbers and bytes are taken.
+#![tactic(auto)]
+
 ghost use Rattle.std.specs.Prelude.{◌≡◌};
 ghost use Rattle.messages.specs.declared.answer.Answer.{Answer};
 ghost use Rattle.messages.specs.Message.{message_of};

@@ -1,6 +1,8 @@
 // The crate's proposer.rs over a lent area. Its rules stand in proposer_rules/specs/Rules.antt, what of them is promised in
 // specs/Contract.antt, the area's and the answer area's layout in docs/LAYOUT.md. The works of each message, of the two that set a list
 // and of a tick are a crate each: proposer_request, proposer_promise, proposer_acceptance, proposer_lists and proposer_clock.
+#![tactic(auto)]
+
 ghost use Rattle.std.specs.Prelude.{◌≡◌, true, cond, List, ℕ, length};
 ghost use Rattle.messages.specs.Message.{message_of};
 ghost use Rattle.messages.specs.Limits.{within_limits};

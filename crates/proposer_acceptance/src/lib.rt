@@ -1,4 +1,6 @@
 // `AcceptRes`: acceptances and refused ones of the second phase.
+#![tactic(auto)]
+
 ghost use Rattle.std.specs.Prelude.{◌≡◌, true, cond, List, ℕ, ◌≤◌, length};
 ghost use Rattle.std.proofs.lemmas.List.Edits.{sets};
 ghost use Rattle.messages.specs.Message.{Failure, Result, given, result_of};

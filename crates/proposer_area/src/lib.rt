@@ -1,4 +1,6 @@
 // The proposer's lent area: its header, its places, and the searches over them.
+#![tactic(auto)]
+
 mod entries;
 mod places;
 mod search;

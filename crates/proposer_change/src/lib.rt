@@ -1,5 +1,7 @@
 // The majority, and the change operation: what a request makes of the promised value. The request's bytes are one lent slice: the value of a `Set`; of a `Cas` the old value's
 // `split` bytes, then the new value. The promised value is the other. The new value is handed back as a part of one of the two.
+#![tactic(auto)]
+
 ghost use Rattle.std.specs.Prelude.{◌≡◌, ◌≤◌, min, length};
 ghost use Rattle.messages.specs.Message.{given};
 ghost use Rattle.messages.specs.Answers.{marked, bytes_of};

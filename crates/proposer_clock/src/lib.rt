@@ -1,4 +1,6 @@
 // A tick: requests over time, in ascending ballot order.
+#![tactic(auto)]
+
 mod clock;
 
 ghost use Rattle.std.specs.Prelude.{◌≡◌, [], ◌∷◌, ◌+◌, ◌*◌, ◌≤◌, length};

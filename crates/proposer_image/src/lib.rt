@@ -1,4 +1,6 @@
 // Whether an area is the image of a state that may be lent: the test of refusal 2.
+#![tactic(auto)]
+
 mod entries;
 
 ghost use Rattle.std.specs.Prelude.{◌≡◌, true, ◌≤◌, length};

@@ -1,4 +1,6 @@
 // `SetAcceptAcceptors` and `SetProposeAcceptors`: the two lists of the header; and the area of a start, which has one list as both.
+#![tactic(auto)]
+
 ghost use Rattle.std.specs.Prelude.{◌≡◌, true, ◌+◌, ◌≤◌, ◌<◌, length, set};
 ghost use Rattle.std.proofs.lemmas.List.Edits.{sets};
 ghost use Rattle.messages.specs.Limits.{list_most, list_fits};

@@ -1,5 +1,7 @@
 // A place of the proposer's area: one pending request in 976 bytes (docs/LAYOUT.md). Its front is taken out and put back as a struct by
 // value; its key, values and lists stay in their rows. specs/State.antt has the request, specs/Area.antt its image.
+#![tactic(auto)]
+
 mod front;
 mod rows;
 

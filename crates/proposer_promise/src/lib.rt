@@ -1,4 +1,6 @@
 // `ProposeRes`: promises and refused proposals of the first phase.
+#![tactic(auto)]
+
 ghost use Rattle.std.specs.Prelude.{◌≡◌, true, List, ℕ, length};
 ghost use Rattle.std.proofs.Math.Option.{Option};
 ghost use Rattle.messages.specs.Message.{Value, given, result_of};

@@ -1,4 +1,6 @@
 // `ClientRequest`: a new pending request, and its proposals.
+#![tactic(auto)]
+
 ghost use Rattle.std.specs.Prelude.{◌≡◌, true, List, ℕ, length};
 ghost use Rattle.messages.specs.Message.{Message, request_of};
 ghost use Rattle.messages.specs.Limits.{within_limits};

@@ -1,5 +1,7 @@
 // What the works of the proposer's messages share: a message to each entry of a list in the answer area, the test for a majority, and
 // a request dropped or a no noted with another counter. What a work is stands in specs/Works.antt.
+#![tactic(auto)]
+
 ghost use Rattle.std.specs.Prelude.{◌≡◌, cond, not, [], ◌≤◌, max, eqb, leb, length};
 ghost use Rattle.std.proofs.Math.Option.{none, some};
 ghost use Rattle.std.proofs.lemmas.List.Edits.{sets};

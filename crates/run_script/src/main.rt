@@ -1,5 +1,7 @@
 // Runs a script from standard input (docs/SCRIPT.md): each message and tick goes to an acceptor or a proposer, and its answer is a line of
 // output. The program only reads and writes; what a line does is `script_run`'s.
+#![tactic(auto)]
+
 ghost use Rattle.std.specs.Prelude.{◌≡◌, ◌≤◌, length};
 ghost use Rattle.script_run.specs.Obeyed.{Held};
 

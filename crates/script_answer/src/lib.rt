@@ -1,4 +1,6 @@
 // Answers and lent areas as lines of a script's output (docs/SCRIPT.md), put into a lent buffer; what doesn't fit there is left out.
+#![tactic(auto)]
+
 mod answer;
 mod message;
 mod show;

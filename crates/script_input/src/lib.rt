@@ -1,4 +1,6 @@
 // Standard input, line by line: a window on a buffer, which is filled as the lines are used up.
+#![tactic(auto)]
+
 ghost use Rattle.std.specs.Prelude.{◌≡◌, ◌≤◌, ◌+◌, min, length};
 ghost use Rattle.script_input.specs.Shown.{Shows};
 

@@ -1,5 +1,7 @@
 // A run of a script (docs/SCRIPT.md): what is lent to its party, and one line after the other on it. Nothing but the lent buffers is read or
 // written.
+#![tactic(auto)]
+
 mod party;
 mod run;
 mod show;

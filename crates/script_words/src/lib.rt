@@ -1,5 +1,7 @@
 // The words of a script's line (docs/SCRIPT.md): numbers, bytes and lists are read, and text, numbers and bytes are written into a lent
 // buffer. Any input is taken, and nothing outside the lent buffers is touched.
+#![tactic(auto)]
+
 mod bytes;
 mod list;
 mod number;

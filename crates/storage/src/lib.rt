@@ -1,5 +1,7 @@
 // The crate's storage.rs: its six operations with MemStorage's behaviour, over a lent table. A key without a block has ballots 0 and no
 // value; a set takes the lowest free block for a new key. specs/Operations.antt says what each answers and stores.
+#![tactic(auto)]
+
 ghost use Rattle.std.specs.Prelude.{◌≡◌, true, cond, [], ◌+◌, ◌*◌, ◌≤◌, length};
 ghost use Rattle.std.proofs.lemmas.List.Edits.{sets};
 ghost use Rattle.messages.specs.Message.{given};

@@ -1,4 +1,6 @@
 // One register as a block of 512 bytes: what a block is and what it holds. specs/Block.antt has 01's section line by line.
+#![tactic(auto)]
+
 ghost use Rattle.std.specs.Prelude.{◌≡◌, true, length};
 ghost use Rattle.std.proofs.lemmas.List.Edits.{sets};
 ghost use Rattle.messages.specs.Answers.{marked, bytes_of};

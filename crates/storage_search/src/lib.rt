@@ -1,4 +1,6 @@
 // The table: as many blocks of 512 bytes as it has registers. Where a key's block is, or the block that a new key takes.
+#![tactic(auto)]
+
 ghost use Rattle.std.specs.Prelude.{◌≡◌, true, ◌-◌, ◌≤◌};
 ghost use Rattle.storage_search.specs.Table.{
   Lent,

@@ -1,4 +1,6 @@
 // The writer of blocks: a register as 512 bytes. What they are stands in storage_block/specs/Block.antt.
+#![tactic(auto)]
+
 ghost use Rattle.std.specs.Prelude.{◌≡◌, ◌≤◌, length, take, replicate};
 ghost use Rattle.messages.specs.Message.{given};
 ghost use Rattle.messages.specs.Answers.{bytes_of};

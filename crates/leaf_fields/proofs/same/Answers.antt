@@ -3,7 +3,7 @@
 use mathlib.Core.Path.{◌≡◌, sym, ◌∙◌}
 use mathlib.Core.Bool.{true, false}
 use mathlib.Core.List.{List, []}
-use Prim.Native.Nat.{ℕ, ◌+◌, ◌-◌, ◌≤◌, ◌<◌}
+use Prim.Native.Nat.{ℕ, ◌+◌, ◌≤◌, ◌<◌}
 use native.Mathlib.Numerals.{add-one}
 use lib.ListN.{length, get_or, drop, drop_of_length-le}
 use lib.Seq.{drop-cons}
@@ -12,14 +12,7 @@ use Rattle.leaf_fields.specs.Fields.{same}
 use Rattle.leaf_fields.specs.Laws.{same-length}
 use borrow.Author.Rules.{rules}
 use native.Mathlib.Omega.{arith}
-use Rattle.leaf_fields.proofs.same.Statement.{statement}
-use Rattle.leaf_fields.proofs.same.Tie as tie
-
-abbrev invariant-loop : tie.invariant-loop
-invariant-loop a b i₀ i = (i ≤ length a) × (same a b ≡ same (drop i a) (drop i b))
-
-abbrev decreases-loop : tie.decreases-loop
-decreases-loop a b i₀ i = length a - i
+use Rattle.leaf_fields.proofs.same.Goals as goal
 
 longer : (a b : List ℕ) → (length a ≡ length b → ⊥) → false ≡ same a b
 longer a b ne = sym (same-length a b ne)
@@ -39,45 +32,14 @@ all a b i past len e =
     let eb : drop i b ≡ [] = drop_of_length-le b {i = i} (omega arith) in
     sym (e ∙ rw (ea, eb))
 
-returns : tie.Need-returns invariant-loop decreases-loop
-returns c = search longer
+pub returns-then-a-b : goal.returns-then-a-b
+returns-then-a-b c = search longer
 
-loop-holds : tie.Need-loop-init invariant-loop decreases-loop
-loop-holds c = search rules
+pub returns-then-a-i : goal.returns-then-a-i
+returns-then-a-i c = search differs
 
-shared-slice-read-if2 : tie.Need-shared-slice-read-if2 invariant-loop decreases-loop
-shared-slice-read-if2 c = search rules
+pub loop-i-preserved : goal.loop-i-preserved
+loop-i-preserved c = (search rules, search equal)
 
-shared-slice-read-if2-2 : tie.Need-shared-slice-read-if2-2 invariant-loop decreases-loop
-shared-slice-read-if2-2 c = search rules
-
-returns-2 : tie.Need-returns-2 invariant-loop decreases-loop
-returns-2 c = search differs
-
-add-i : tie.Need-overflow-add-i invariant-loop decreases-loop
-add-i c = search rules
-
-loop-less : tie.Need-loop-smaller invariant-loop decreases-loop
-loop-less c = search rules
-
-loop-again : tie.Need-loop-preserved invariant-loop decreases-loop
-loop-again c = (search rules, search equal)
-
-returns-3 : tie.Need-returns-3 invariant-loop decreases-loop
-returns-3 c = search all
-
-pub same_spec : {M : Type 1} → statement M
-same_spec =
-    tie.close
-    (tie.spec
-    invariant-loop
-    decreases-loop
-    returns
-    loop-holds
-    shared-slice-read-if2
-    shared-slice-read-if2-2
-    returns-2
-    add-i
-    loop-less
-    loop-again
-    returns-3)
+pub returns : goal.returns
+returns c = search all
