@@ -8,8 +8,7 @@ use lib.ListN.{length}
 use borrow.Author.Tests.{le-leb, lt-leb}
 use Rattle.messages.specs.Limits.{list_most, none_zero, list_fits}
 use borrow.Author.Rules.{rules}
-use Rattle.messages.proofs.limits.list_fits.Statement.{statement}
-use Rattle.messages.proofs.limits.list_fits.Tie as tie
+use Rattle.messages.proofs.limits.list_fits.Goals as goal
 
 long : (l : List ℕ) → list_most < length l → false ≡ list_fits l
 unfolding list_fits
@@ -19,14 +18,8 @@ short : (l : List ℕ) (b : Bool) → length l ≤ list_most → b ≡ none_zero
 unfolding list_fits
 short l b h f = rw (le-leb (length l) list_most h, f)
 
-returns : tie.Need-returns
-returns c = search long
+pub returns-then-list-gt-LIST_MOST : goal.returns-then-list-gt-LIST_MOST
+returns-then-list-gt-LIST_MOST c = search long
 
-none-zero-requires : tie.Need-none-zero-requires
-none-zero-requires c κs = search rules
-
-returns-2 : tie.Need-returns-2
-returns-2 c = search short
-
-pub list-fits-spec : {M : Type 1} → statement M
-list-fits-spec = tie.close (tie.spec returns none-zero-requires returns-2)
+pub returns : goal.returns
+returns c = search short
