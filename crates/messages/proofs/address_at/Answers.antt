@@ -7,7 +7,6 @@ use lib.ListN.{length, get_or-eq_default}
 use Rattle.messages.specs.declared.Address.{Address}
 use Rattle.messages.specs.declared.Place.{Place}
 use Rattle.messages.specs.Message.{listed_at}
-use borrow.Author.Rules.{rules}
 use Rattle.messages.proofs.address_at.Goals as goal
 
 past : (l : List ℕ) (p : Place) → length l ≤ p.0 → ◌≡◌ {A = Address} (record { 0 = 0 }) (listed_at l p)

@@ -4,7 +4,6 @@ use mathlib.Core.Path.{◌≡◌}
 use Rattle.messages.specs.declared.OptionReq.{OptionReq}
 use Rattle.messages.specs.declared.Rpc.{Rpc}
 use Rattle.messages.specs.Errors.{request_of_rpc}
-use borrow.Author.Rules.{rules}
 use Rattle.messages.proofs.Rpc.client_req.Goals as goal
 
 matched : (m n : Rpc) (r : OptionReq) → m ≡ n → r ≡ request_of_rpc n → r ≡ request_of_rpc m

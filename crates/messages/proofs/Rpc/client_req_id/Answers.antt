@@ -4,7 +4,6 @@ use mathlib.Core.Path.{◌≡◌}
 use Rattle.messages.specs.declared.OptionId.{OptionId}
 use Rattle.messages.specs.declared.Rpc.{Rpc}
 use Rattle.messages.specs.Errors.{request_id}
-use borrow.Author.Rules.{rules}
 use Rattle.messages.proofs.Rpc.client_req_id.Goals as goal
 
 matched : (m n : Rpc) (r : OptionId) → m ≡ n → r ≡ request_id n → r ≡ request_id m

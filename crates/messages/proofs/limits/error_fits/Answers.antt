@@ -7,7 +7,6 @@ use Prim.Native.Nat.{ℕ}
 use Rattle.messages.specs.declared.Error.{Error}
 use Rattle.messages.specs.Message.{failure_of}
 use Rattle.messages.specs.Limits.{failure_fits}
-use borrow.Author.Rules.{rules}
 use Rattle.messages.proofs.limits.error_fits.Goals as goal
 
 matched : (e f : Error) (w : List ℕ) (b : Bool) → e ≡ f → b ≡ failure_fits (failure_of f w) → b ≡ failure_fits (failure_of e w)

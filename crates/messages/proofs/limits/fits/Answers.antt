@@ -6,7 +6,6 @@ use borrow.Author.Tests.{ne_eqb}
 use Rattle.messages.specs.declared.Address.{Address}
 use Rattle.messages.specs.Message.{Message}
 use Rattle.messages.specs.Limits.{message_fits, within_limits}
-use borrow.Author.Rules.{rules}
 use Rattle.messages.proofs.limits.fits.Goals as goal
 
 no_sender : (from : Address) (m : Message) → from.0 ≡ 0 → false ≡ within_limits from m

@@ -7,7 +7,6 @@ use Prim.Native.Nat.{ℕ, ◌≤◌, ◌<◌}
 use lib.ListN.{length}
 use borrow.Author.Tests.{le-leb, lt-leb}
 use Rattle.messages.specs.Limits.{list_most, none_zero, list_fits}
-use borrow.Author.Rules.{rules}
 use Rattle.messages.proofs.limits.list_fits.Goals as goal
 
 long : (l : List ℕ) → list_most < length l → false ≡ list_fits l

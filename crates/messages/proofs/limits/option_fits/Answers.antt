@@ -7,7 +7,6 @@ use Prim.Native.Nat.{ℕ}
 use Rattle.messages.specs.declared.OptionValue.{OptionValue}
 use Rattle.messages.specs.Message.{given}
 use Rattle.messages.specs.Limits.{option_fits}
-use borrow.Author.Rules.{rules}
 use Rattle.messages.proofs.limits.option_fits.Goals as goal
 
 matched : (o p : OptionValue) (v : List ℕ) (b : Bool) → o ≡ p → b ≡ option_fits (given p v) → b ≡ option_fits (given o v)

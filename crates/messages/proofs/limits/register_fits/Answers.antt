@@ -1,7 +1,6 @@
 -- `messages::limits::register_fits` meets its contract: the key's test, then the value's.
 -- Assumes nothing.
 use Rattle.messages.proofs.Laws.{and_second, and_first}
-use borrow.Author.Rules.{rules}
 use Rattle.messages.proofs.limits.register_fits.Goals as goal
 
 pub returns-then-key_fits : goal.returns-then-key_fits

@@ -3,14 +3,13 @@
 use mathlib.Core.Path.{◌≡◌}
 use mathlib.Core.Bool.{Bool}
 use mathlib.Core.List.{List}
-use mathlib.Core.Logic.{⊎_elim}
 use Prim.Native.Nat.{ℕ}
 use Rattle.messages.specs.declared.Req.{Req}
 use Rattle.messages.specs.Message.{request_of}
 use Rattle.messages.specs.Limits.{request_fits}
 use Rattle.messages.proofs.Laws.{and_second, and_first}
-use borrow.Author.Rules.{rules}
 use Rattle.messages.proofs.limits.req_fits.Goals as goal
+use Rattle.messages.proofs.limits.req_fits.Goals.{then-key_fits-2, else-key_fits-2}
 
 matched : (r s : Req) (k v w : List ℕ) (b : Bool) → r ≡ s → b ≡ request_fits (request_of s k v w) → b ≡ request_fits (request_of r k v w)
 matched r s k v w b h f = rw (h, f)
@@ -29,16 +28,16 @@ returns-else-key_fits c = search (matched, and_first)
 
 pub returns-then-option_fits : goal.returns-then-option_fits
 returns-then-option_fits c =
-    let two = c.if-key_fits-2 in
-    ⊎_elim
-    (λ w. search (matched, and_second two.if3, and_second))
-    (λ w. search (matched, and_second two.if3, and_first))
-    two.branch
+    let both = c.if-key_fits-2.value in
+    elim c.if-key_fits-2.branch [
+      | then-key_fits-2 w ↦ search (matched, and_second both, and_second)
+      | else-key_fits-2 w ↦ search (matched, and_second both, and_first)
+    ]
 
 pub returns-else-option_fits : goal.returns-else-option_fits
 returns-else-option_fits c =
-    let two = c.if-key_fits-2 in
-    ⊎_elim
-    (λ w. search (matched, and_first two.if3, and_second))
-    (λ w. search (matched, and_first two.if3, and_first))
-    two.branch
+    let both = c.if-key_fits-2.value in
+    elim c.if-key_fits-2.branch [
+      | then-key_fits-2 w ↦ search (matched, and_first both, and_second)
+      | else-key_fits-2 w ↦ search (matched, and_first both, and_first)
+    ]

@@ -7,7 +7,6 @@ use Prim.Native.Nat.{ℕ}
 use Rattle.messages.specs.declared.Res.{Res}
 use Rattle.messages.specs.Message.{result_of}
 use Rattle.messages.specs.Limits.{result_fits}
-use borrow.Author.Rules.{rules}
 use Rattle.messages.proofs.limits.res_fits.Goals as goal
 
 matched : (r s : Res) (w : List ℕ) (b : Bool) → r ≡ s → b ≡ result_fits (result_of s w) → b ≡ result_fits (result_of r w)

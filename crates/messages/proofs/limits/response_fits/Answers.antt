@@ -7,7 +7,6 @@ use Prim.Native.Nat.{ℕ}
 use Rattle.messages.specs.declared.Response.{Response}
 use Rattle.messages.specs.Message.{response_of}
 use Rattle.messages.specs.Limits.{response_fits}
-use borrow.Author.Rules.{rules}
 use Rattle.messages.proofs.limits.response_fits.Goals as goal
 
 matched : (r s : Response) (v w : List ℕ) (b : Bool) → r ≡ s → b ≡ response_fits (response_of s v w) → b ≡ response_fits (response_of r v w)

@@ -8,7 +8,6 @@ use Rattle.messages.specs.declared.Rpc.{Rpc}
 use Rattle.messages.specs.Message.{message_of}
 use Rattle.messages.specs.Limits.{message_fits}
 use Rattle.messages.proofs.Laws.{and_second, and_first}
-use borrow.Author.Rules.{rules}
 use Rattle.messages.proofs.limits.rpc_fits.Goals as goal
 
 matched : (m n : Rpc) (k v w l : List ℕ) (b : Bool) → m ≡ n → b ≡ message_fits (message_of n k v w l) → b ≡ message_fits (message_of m k v w l)
