@@ -4,7 +4,7 @@
 ghost use Rattle.std.specs.Prelude.{◌≡◌, ◌≤◌, length};
 ghost use Rattle.leaf_sums.specs.Sums.{plain_sum, placed_sum};
 
-#[derive(Drop)]
+#[derive(Clone, Copy)]
 pub struct Sums {
     pub plain: u32,
     pub placed: u32,

@@ -25,7 +25,7 @@ use messages::{Ballot, Error, OptionValue, Req, Res, Response, Rpc};
 
 // The numbers of include/mirkaspel.h: the kinds are 1 to 8 in the order of Rpc, the requests 1 to 4 in that of Req, the results 0 for Ok and
 // 1 to 4 for the errors in their order. A number that a kind has no use for is not looked at, and is 0 in an answer.
-#[derive(Drop)]
+#[derive(Clone, Copy)]
 pub struct Head {
     pub kind: u64,
     // a client's id, or the ballot
@@ -42,7 +42,7 @@ pub struct Head {
 }
 
 // What a result's number says.
-#[derive(Drop)]
+#[derive(Clone, Copy)]
 pub enum Verdict {
     Ok,
     Err(Error),

@@ -25,14 +25,14 @@ pub use limits::{
 };
 
 // A controller's or client's address, 1 to 65,535 as on the drawing; 0 is none.
-#[derive(Drop)]
+#[derive(Clone, Copy)]
 pub struct Address(pub u16);
 
 // A place in a list, from 0.
-#[derive(Drop)]
+#[derive(Clone, Copy)]
 pub struct Place(pub usize);
 
-#[derive(Drop)]
+#[derive(Clone, Copy)]
 pub struct Ballot(pub u64);
 
 impl Ballot {
@@ -45,13 +45,13 @@ impl Ballot {
 }
 
 // The crate's Option<Value>; no value differs from the empty value.
-#[derive(Drop)]
+#[derive(Clone, Copy)]
 pub enum OptionValue {
     None,
     Some,
 }
 
-#[derive(Drop)]
+#[derive(Clone, Copy)]
 pub enum Req {
     Get,
     Del,
@@ -59,7 +59,7 @@ pub enum Req {
     Cas { old: OptionValue, new: OptionValue },
 }
 
-#[derive(Drop)]
+#[derive(Clone, Copy)]
 pub enum Error {
     ProposalRejected { last: Ballot },
     AcceptRejected { last: Ballot },
@@ -68,20 +68,20 @@ pub enum Error {
 }
 
 // The crate's Result<(), Error>.
-#[derive(Drop)]
+#[derive(Clone, Copy)]
 pub enum Res {
     Ok,
     Err(Error),
 }
 
 // The crate's Result<Option<Value>, Error>.
-#[derive(Drop)]
+#[derive(Clone, Copy)]
 pub enum Response {
     Ok(OptionValue),
     Err(Error),
 }
 
-#[derive(Drop)]
+#[derive(Clone, Copy)]
 pub enum Rpc {
     ClientRequest(u64, Req),
     ClientResponse(u64, Response),
@@ -99,13 +99,13 @@ pub enum Rpc {
 }
 
 // The crate's Option<u64> and Option<Req>, which the two helpers answer.
-#[derive(Drop)]
+#[derive(Clone, Copy)]
 pub enum OptionId {
     None,
     Some(u64),
 }
 
-#[derive(Drop)]
+#[derive(Clone, Copy)]
 pub enum OptionReq {
     None,
     Some(Req),

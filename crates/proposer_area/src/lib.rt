@@ -28,7 +28,7 @@ pub const ACCEPT_LIST: usize = 20;
 pub const PROPOSE_LIST: usize = 50;
 
 // The numbers of the header, and how many entries the two lists have.
-#[derive(Drop)]
+#[derive(Clone, Copy)]
 pub struct Header {
     pub counter: u64,
     pub timeout: u64,

@@ -33,14 +33,14 @@ use super::{PLACE, PROMISED, VALUES};
 use messages::{Address, Ballot, OptionValue, Req};
 
 // The first phase asks for promises, the second for acceptances.
-#[derive(Drop)]
+#[derive(Clone, Copy)]
 pub enum Phase {
     Propose,
     Accept,
 }
 
 // A pending request but for its key, values and lists, of which it has the lengths.
-#[derive(Drop)]
+#[derive(Clone, Copy)]
 pub struct Front {
     pub phase: Phase,
     pub retried: bool,

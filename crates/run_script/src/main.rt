@@ -35,7 +35,7 @@ fn make_room(out: &[u8], at: usize) -> usize
 }
 
 // A run, and which part of the input is read and not used up.
-#[derive(Drop)]
+#[derive(Clone, Copy)]
 struct Reading {
     run: Run,
     from: usize,

@@ -28,7 +28,7 @@ use script_words::{
     word,
 };
 
-#[derive(Drop)]
+#[derive(Clone, Copy)]
 pub enum Step {
     // an empty line or a remark
     Pass,
@@ -52,7 +52,7 @@ pub enum Step {
 }
 
 // A step, where its key, its value and its other value end in the lent bytes, one behind the other, and how many numbers its list has.
-#[derive(Drop)]
+#[derive(Clone, Copy)]
 pub struct Line {
     pub step: Step,
     pub key: usize,

@@ -6,7 +6,7 @@ ghost use Rattle.script_input.specs.Shown.{Shows};
 
 // The line from `from` to `end`; what was read reaches to `to`. Where `end` is `to` the line has no line end: it is the input's last, or
 // longer than the buffer.
-#[derive(Drop)]
+#[derive(Clone, Copy)]
 pub struct Window {
     pub from: usize,
     pub end: usize,

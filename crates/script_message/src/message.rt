@@ -25,37 +25,37 @@ use leaf_fields::same;
 use messages::{Ballot, Error, OptionValue, Req, Res, Response, Rpc};
 use script_words::{Number, Words, is_bytes, is_list, read_number, word};
 
-#[derive(Drop)]
+#[derive(Clone, Copy)]
 pub enum Given {
     Bad,
     Good(OptionValue),
 }
 
-#[derive(Drop)]
+#[derive(Clone, Copy)]
 pub enum Failure {
     Bad,
     Good(Error),
 }
 
-#[derive(Drop)]
+#[derive(Clone, Copy)]
 pub enum Asked {
     Bad,
     Good(Req),
 }
 
-#[derive(Drop)]
+#[derive(Clone, Copy)]
 pub enum Replied {
     Bad,
     Good(Response),
 }
 
-#[derive(Drop)]
+#[derive(Clone, Copy)]
 pub enum Result {
     Bad,
     Good(Res),
 }
 
-#[derive(Drop)]
+#[derive(Clone, Copy)]
 pub enum Message {
     Bad,
     Good(Rpc),

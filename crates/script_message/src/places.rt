@@ -17,7 +17,7 @@ use script_words::WORDS_MOST;
 // The place of no word: the word there is empty.
 pub const NO_WORD: usize = WORDS_MOST;
 
-#[derive(Drop)]
+#[derive(Clone, Copy)]
 pub struct Places {
     pub key: usize,
     pub value: usize,

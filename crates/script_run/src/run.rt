@@ -5,7 +5,7 @@ ghost use Rattle.script_run.specs.Run.{fresh, put_up_to, timed, lending, reached
 // Which party there is, the time that messages carry, what is lent to the party (its capacity is the registers of an acceptor's table or
 // the places of a proposer's area), how far the table may hold anything but zeros, how far the output is written, and whether the run is
 // over.
-#[derive(Drop)]
+#[derive(Clone, Copy)]
 pub struct Run {
     pub started: bool,
     pub proposer: bool,

@@ -4,13 +4,13 @@ ghost use Rattle.script_words.specs.Text.{number_of, address_of};
 
 use messages::Address;
 
-#[derive(Drop)]
+#[derive(Clone, Copy)]
 pub enum Number {
     Bad,
     Good(u64),
 }
 
-#[derive(Drop)]
+#[derive(Clone, Copy)]
 pub enum Sender {
     Bad,
     Good(Address),

@@ -7,7 +7,7 @@ ghost use Rattle.script_words.specs.Split.{no_words, word_at, Split};
 pub const WORDS_MOST: usize = 8;
 
 // Where each of the first `n` words begins and ends. The others begin and end at 0, so they are empty.
-#[derive(Drop)]
+#[derive(Clone, Copy)]
 pub struct Words {
     pub n: usize,
     pub from: [usize; 8],

@@ -15,13 +15,13 @@ use messages::{Ballot, KEY_MOST, OptionValue, Refusal, VALUE_MOST};
 use storage_block::BLOCK;
 use storage_search::Found;
 
-#[derive(Drop)]
+#[derive(Clone, Copy)]
 pub enum GotBallot {
     Is(Ballot),
     Refused(Refusal),
 }
 
-#[derive(Drop)]
+#[derive(Clone, Copy)]
 pub enum GotValue {
     None,
     // the value's length; its bytes stand at the front of the lent area
@@ -29,14 +29,14 @@ pub enum GotValue {
     Refused(Refusal),
 }
 
-#[derive(Drop)]
+#[derive(Clone, Copy)]
 pub enum Done {
     Stored,
     Refused(Refusal),
 }
 
 // What a set changes of a register; a value's bytes are lent beside it.
-#[derive(Drop)]
+#[derive(Clone, Copy)]
 pub enum Change {
     HighestSeen(Ballot),
     AcceptedBallot(Ballot),
@@ -47,20 +47,20 @@ pub enum Change {
 pub const VALUE_AREA: usize = VALUE_MOST;
 
 // Where a key is, or why that can't be said.
-#[derive(Drop)]
+#[derive(Clone, Copy)]
 enum Place {
     Known(Found),
     Refused(Refusal),
 }
 
 // The two ballots of a key.
-#[derive(Drop)]
+#[derive(Clone, Copy)]
 struct Held {
     seen: Ballot,
     accepted: Ballot,
 }
 
-#[derive(Drop)]
+#[derive(Clone, Copy)]
 enum Lookup {
     Is(Held),
     Refused(Refusal),

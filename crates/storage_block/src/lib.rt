@@ -19,7 +19,7 @@ use messages::{Ballot, KEY_MOST, OptionValue, VALUE_MOST};
 
 pub const BLOCK: usize = 512;
 
-#[derive(Drop)]
+#[derive(Clone, Copy)]
 pub enum BlockState {
     Free,
     Good,

@@ -19,7 +19,7 @@ ghost use Rattle.storage_search.specs.Table.{
 use messages::REGISTERS_MOST;
 use storage_block::{BLOCK, BlockState};
 
-#[derive(Drop)]
+#[derive(Clone, Copy)]
 pub enum Found {
     // the one block that holds the key
     At(usize),
@@ -31,7 +31,7 @@ pub enum Found {
     Twice,
 }
 
-#[derive(Drop)]
+#[derive(Clone, Copy)]
 enum Search {
     At(usize),
     Nothing,
