@@ -1,6 +1,6 @@
 -- The proposer's lent area, byte by byte: the image of a state, the state that an area is read as, and which areas are images of a state that may be lent.
 -- Assumes nothing.
-use Rattle.std.specs.Prelude.{Bool, true, false, not, cond, ◌&&◌, List, [], ◌∷◌, ◌++◌, ℕ, zero, suc, ◌+◌, ◌-◌, ◌*◌, eqb, leb, length, replicate}
+use Rattle.std.specs.Prelude.{Bool, true, false, not, cond, ◌&&◌, List, [], ◌∷◌, ◌++◌, ℕ, zero, suc, ◌+◌, ◌*◌, eqb, leb, length, replicate}
 use Rattle.std.proofs.Math.Option.{Option, none, some}
 use Rattle.leaf_fields.specs.Fields.{from_le, to_le, part, byte, same, padded}
 use Rattle.messages.specs.declared.Ballot.{Ballot}

@@ -1,7 +1,7 @@
 -- What an image is read as: a state that fits its fields and that may be lent, so one area is the image of one state.
 -- Assumes nothing.
 use Rattle.std.specs.Prelude.{◌≡◌, refl, Bool, true, false, not, cond, ◌&&◌, List, [], ◌∷◌, ℕ, zero, suc, ◌+◌, ◌^◌, ◌≤◌, ◌<◌, eqb, leb, length, take, drop}
-use Rattle.std.proofs.Common.{sym, ◌∙◌, pow-suc, arith, leb-true, lit<}
+use Rattle.std.proofs.Common.{get_or, sym, ◌∙◌, pow-suc, arith, leb-true, lit<}
 use Rattle.std.proofs.Math.Option.{Option, none, some}
 use Rattle.leaf_fields.specs.Fields.{from_le, part, byte, same, Bytes}
 use Rattle.leaf_fields.specs.Laws.{and_true, bytes_drop, bytes_part}
@@ -29,7 +29,7 @@ part_fits b at n h = take_fits n (drop at b) (bytes_drop at b h)
 entries_fit : (b : List ℕ) (at n : ℕ) → Bytes b → Entries (entries b at n)
 unfolding entries Entries
 entries_fit b at zero h = λ i. lit< tt
-entries_fit b at (suc n) h = λ i. elim i [ zero ↦ part_fits b at 2 h | suc j ↦ entries_fit b (at + 2) n h j ]
+entries_fit b at (suc n) h = λ i. elim i as (λ z. get_or (entries b at (suc n)) z 0 < 256 ^ 2) [ zero ↦ part_fits b at 2 h | suc j ↦ entries_fit b (at + 2) n h j ]
 
 list_short : (l : List ℕ) → list_fits l ≡ true → length l ≤ list_most
 unfolding list_fits
@@ -156,7 +156,7 @@ unfolding read_places LawfulPlaces
 lawful_places c a at zero h fits = λ i. tt
 lawful_places c a at (suc n) h fits =
     let parts = lawful_place c (part a at place_bytes) (read_places a (at + place_bytes) n) (bytes_part a at place_bytes h) fits in
-    λ i. elim i [ zero ↦ parts.0 | suc j ↦ lawful_places c a (at + place_bytes) n h parts.1 j ]
+    λ i. elim i as (λ z. LawfulPlace (get_or (read_places a at (suc n)) z none)) [ zero ↦ parts.0 | suc j ↦ lawful_places c a (at + place_bytes) n h parts.1 j ]
 
 pub length_read : (a : List ℕ) (at n : ℕ) → length (read_places a at n) ≡ n
 unfolding read_places

@@ -1,13 +1,13 @@
 -- A place of an image is read and replaced by itself, and the counter too; what a message makes of a lawful request is lawful.
 -- Assumes nothing.
-use Rattle.std.specs.Prelude.{◌≡◌, refl, Bool, true, ℕ, zero, suc, ◌+◌, ◌*◌, ◌^◌, ◌≤◌, ◌<◌, length, get_or, set, take, drop}
+use Rattle.std.specs.Prelude.{◌≡◌, Bool, true, ℕ, zero, suc, ◌+◌, ◌*◌, ◌^◌, ◌<◌, length, get_or, set, take, drop}
 use Rattle.std.proofs.Math.Path.{sym, ap}
 use Rattle.std.proofs.Common.{◌∙◌, arith, lit<, length-append, length-set, take_at, drop_at, drop-drop}
 use mathlib.Core.List.{List, [], ◌∷◌, ◌++◌, append_assoc}
 use Rattle.std.proofs.Math.Option.{Option, none, some}
 use Rattle.std.proofs.lemmas.List.Edits.{sets}
 use Rattle.leaf_fields.specs.Stores.{sets_left, sets_right, sets_whole}
-use Rattle.leaf_fields.specs.Fields.{to_le, part, Bytes}
+use Rattle.leaf_fields.specs.Fields.{to_le, part}
 use Rattle.leaf_fields.specs.Laws.{length-to_le}
 use Rattle.leaf_fields.specs.Rows.{bytes_none}
 use Rattle.messages.specs.declared.Address.{Address}
@@ -114,8 +114,8 @@ lawful_counter s n c ok h =
 set_lawful : (l : List (Option Pending)) (i : ℕ) (q : Option Pending) → LawfulPlaces l → LawfulPlace q → LawfulPlaces (set l i q)
 unfolding LawfulPlaces
 set_lawful [] i q ok okq = ok
-set_lawful (x ∷ l) zero q ok okq = λ k. elim k [ zero ↦ okq | suc j ↦ ok (suc j) ]
-set_lawful (x ∷ l) (suc i) q ok okq = λ k. elim k [ zero ↦ ok 0 | suc j ↦ set_lawful l i q (λ m. ok (suc m)) okq j ]
+set_lawful (x ∷ l) zero q ok okq = λ k. elim k as (λ z. LawfulPlace (get_or (q ∷ l) z none)) [ zero ↦ okq | suc j ↦ ok (suc j) ]
+set_lawful (x ∷ l) (suc i) q ok okq = λ k. elim k as (λ z. LawfulPlace (get_or (x ∷ set l i q) z none)) [ zero ↦ ok 0 | suc j ↦ set_lawful l i q (λ m. ok (suc m)) okq j ]
 
 pub lawful_place_set : (s : Proposer) (n i : ℕ) (q : Option Pending) → LawfulState s n → LawfulPlace q → LawfulState (with_places s (set s.places i q)) n
 lawful_place_set s n i q ok okq =
@@ -139,8 +139,8 @@ no_entries = record { short = omega arith; fit = entries_none }
 
 entries_more : (l : List ℕ) (x : ℕ) → Entries l → x < 256 ^ 2 → Entries (l ++ (x ∷ []))
 unfolding Entries
-entries_more [] x ok h = λ i. elim i [ zero ↦ h | suc j ↦ lit< tt ]
-entries_more (y ∷ l) x ok h = λ i. elim i [ zero ↦ ok 0 | suc j ↦ entries_more l x (λ k. ok (suc k)) h j ]
+entries_more [] x ok h = λ i. elim i as (λ z. get_or (x ∷ []) z 0 < 256 ^ 2) [ zero ↦ h | suc j ↦ lit< tt ]
+entries_more (y ∷ l) x ok h = λ i. elim i as (λ z. get_or (y ∷ (l ++ (x ∷ []))) z 0 < 256 ^ 2) [ zero ↦ ok 0 | suc j ↦ entries_more l x (λ k. ok (suc k)) h j ]
 
 -- one more entry
 pub one_more : (l : List ℕ) (x : ℕ) → ShortList l → length l < list_most → x < 256 ^ 2 → ShortList (l ++ (x ∷ []))

@@ -1,10 +1,8 @@
 -- The entries of a list, in their row of bytes.
 -- Assumes nothing.
-use Rattle.std.specs.Prelude.{◌≡◌, refl, List, [], ◌∷◌, ◌++◌, ℕ, zero, suc, ◌+◌, ◌-◌, ◌*◌, ◌≤◌, ◌<◌, length, take, drop, set, replicate}
-use Rattle.std.proofs.Common.{sym, ap, ◌∙◌, append_assoc, append-nil, zero-add, suc-add, arith, length-set, length-append, take_at, drop_at}
-use borrow.Rule.Slice.PartMut.{put_mid}
-use Rattle.std.proofs.lemmas.List.{length-replicate, set-append_left}
-use Rattle.std.proofs.lemmas.List.Edits.{sets, sets-eq}
+use Rattle.std.specs.Prelude.{◌≡◌, refl, List, [], ◌∷◌, ◌++◌, ℕ, zero, suc, ◌+◌, ◌*◌, ◌≤◌, ◌<◌, length, take}
+use Rattle.std.proofs.Common.{sym, ap, ◌∙◌, append_assoc, append-nil, arith}
+use Rattle.std.proofs.lemmas.List.Edits.{sets}
 use Rattle.leaf_fields.specs.Stores.{padded_more}
 use Rattle.leaf_fields.specs.Fields.{from_le, to_le, part, Bytes, padded}
 use Rattle.leaf_fields.specs.Laws.{length-to_le, to_le-from_le, length-part, bytes_part}

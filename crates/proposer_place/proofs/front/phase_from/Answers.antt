@@ -6,8 +6,7 @@ use borrow.Author.Tests.{ne_eqb}
 use Rattle.proposer_place.specs.declared.front.Phase.{Phase}
 use Rattle.proposer_place.specs.Area.{phase_from}
 use Rattle.proposer_place.specs.Front.{phase_of}
-use Rattle.proposer_place.proofs.front.phase_from.Statement.{statement}
-use Rattle.proposer_place.proofs.front.phase_from.Tie as tie
+use Rattle.proposer_place.proofs.front.phase_from.Goals as goal
 
 first : (x : ℕ) → x ≡ 1 → Phase.Propose ≡ phase_of (phase_from x)
 first x e = rw e
@@ -15,11 +14,8 @@ first x e = rw e
 second : (x : ℕ) → (x ≡ 1 → ⊥) → Phase.Accept ≡ phase_of (phase_from x)
 second x ne = rw (ne_eqb x 1 ne)
 
-returns : tie.Need-returns
-returns c = search first
+pub returns-then-byte-eq1 : goal.returns-then-byte-eq1
+returns-then-byte-eq1 c = search first
 
-returns-2 : tie.Need-returns-2
-returns-2 c = search second
-
-pub phase-from-spec : {M : Type 1} → statement M
-phase-from-spec = tie.close (tie.spec returns returns-2)
+pub returns : goal.returns
+returns c = search second

@@ -6,8 +6,7 @@ use Prim.Native.Nat.{ℕ}
 use borrow.Author.Tests.{ne_eqb}
 use lib.Dec.{eqb}
 use borrow.Author.Rules.{rules}
-use Rattle.proposer_place.proofs.front.first_from.Statement.{statement}
-use Rattle.proposer_place.proofs.front.first_from.Tie as tie
+use Rattle.proposer_place.proofs.front.first_from.Goals as goal
 
 -- a length by the kind
 abbrev by_kind : ℕ → ℕ → ℕ
@@ -22,21 +21,11 @@ del kind n e = rw e
 others : (kind n r : ℕ) → (kind ≡ 1 → ⊥) → (kind ≡ 2 → ⊥) → r ≡ n → r ≡ by_kind kind n
 others kind n r no-get no-del e = rw (ne_eqb kind 1 no-get, ne_eqb kind 2 no-del) e
 
-returns : tie.Need-returns
-returns c = (search get, search rules)
+pub returns-then-kind-eq1 : goal.returns-then-kind-eq1
+returns-then-kind-eq1 c = (search get, search rules)
 
-returns-2 : tie.Need-returns-2
-returns-2 c = (search del, search rules)
+pub returns-then-kind-eq2 : goal.returns-then-kind-eq2
+returns-then-kind-eq2 c = (search del, search rules)
 
-sub-length-from : tie.Need-overflow-sub-length-from
-sub-length-from c = search rules
-
-length-from-requires : tie.Need-length-from-requires
-length-from-requires c κs = search rules
-
-returns-3 : tie.Need-returns-3
-returns-3 c = (search others depth 8, search rules)
-
-pub first-from-spec : {M : Type 1} → statement M
-first-from-spec =
-    tie.close (tie.spec returns returns-2 sub-length-from length-from-requires returns-3)
+pub returns : goal.returns
+returns c = (search others depth 8, search rules)

@@ -13,10 +13,8 @@ use Rattle.proposer_rules.specs.State.{with_no}
 use Rattle.proposer_place.specs.Area.{place_image, read_pending}
 use Rattle.proposer_place.specs.Front.{front_of, front_bytes, Small, Used}
 use Rattle.proposer_place.specs.PlaceRows.{one_more_no, front_no, no_added, used_length, few_noes, room_no, room_front}
-use borrow.Author.Rules.{rules}
 use native.Mathlib.Omega.{arith}
-use Rattle.proposer_place.proofs.rows.note_no.Statement.{statement}
-use Rattle.proposer_place.proofs.rows.note_no.Tie as tie
+use Rattle.proposer_place.proofs.rows.note_no.Goals as goal
 
 small : (b : List ℕ) (f : Front) → f ≡ front_of (read_pending b) → length (read_pending b).nacks_from < 15 → Small f → Small (one_more_no f)
 small b f e few s = record { key = s.key; waited = s.waited; yeses = s.yeses; noes = omega (arith, few_noes b f e few) }
@@ -31,43 +29,14 @@ noted b n₁ n₂ f from u few e e₁ e₂ =
     ∙ ap (sets (sets (place_image (some p)) at (to_le 2 from.0)) 0) (front_no p from)
     ∙ no_added p u.lawful from few
 
-take-requires : tie.Need-take-requires
-take-requires c κs = search used_length
+pub take-f-requires : goal.take-f-requires
+take-f-requires c = search used_length
 
-mul-put : tie.Need-overflow-mul-put
-mul-put c = search rules
+pub put-requires : goal.put-requires
+put-requires c = search room_no
 
-add-put : tie.Need-overflow-add-put
-add-put c = search rules
+pub put-requires-2 : goal.put-requires-2
+put-requires-2 c = (search room_front, search small depth 9)
 
-cast-put : tie.Need-overflow-cast-put
-cast-put c = search rules
-
-put-requires : tie.Need-put-requires
-put-requires c κs = search room_no
-
-add-f : tie.Need-overflow-add-f
-add-f c = search rules
-
-put-requires-2 : tie.Need-put-requires-2
-put-requires-2 c κs = (search room_front, search small depth 9)
-
-same-length : tie.Need-same-length
-same-length c = search rules
-
-returns : tie.Need-returns
+pub returns : goal.returns
 returns c = search noted depth 9
-
-pub note-no-spec : {M : Type 1} → statement M
-note-no-spec =
-    tie.close
-    (tie.spec
-    take-requires
-    mul-put
-    add-put
-    cast-put
-    put-requires
-    add-f
-    put-requires-2
-    same-length
-    returns)

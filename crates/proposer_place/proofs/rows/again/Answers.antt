@@ -19,10 +19,8 @@ use Rattle.proposer_place.specs.Area.{place_front, place_image, read_pending}
 use Rattle.proposer_place.specs.Front.{front_of, front_bytes, anew, Small, Used}
 use Rattle.proposer_place.specs.Rows.{entries-length}
 use Rattle.proposer_place.specs.PlaceRows.{front_again, again_entered, used_length}
-use borrow.Author.Rules.{rules}
 use native.Mathlib.Omega.{arith}
-use Rattle.proposer_place.proofs.rows.again.Statement.{statement}
-use Rattle.proposer_place.proofs.rows.again.Tie as tie
+use Rattle.proposer_place.proofs.rows.again.Goals as goal
 
 small : (f r : Front) (ballot : Ballot) (n : ℕ) → Small f → n ≤ 15 → r ≡ anew f ballot n → Small r
 small f r ballot n s few e =
@@ -48,69 +46,21 @@ entered l known b z z' n₂ n₃ n ballot f r u few full ef ez ez' e₂ er e₃ 
     (e₂ ∙ ap (λ (x : List ℕ). sets (put_mid 720 256 m x) 52 l) cleared' ∙ ap (λ (x : List ℕ). sets (put_mid 720 256 x (replicate 256 0)) 52 l) lists)
     ∙ again_entered p u.lawful l n full few bytes ballot
 
-take-requires : tie.Need-take-requires
-take-requires c κs = search used_length
+pub take-f-requires : goal.take-f-requires
+take-f-requires c = search used_length
 
-sub-clear : tie.Need-overflow-sub-clear
-sub-clear c = search rules
+pub slice_bounds-clear-end : goal.slice_bounds-clear-end
+slice_bounds-clear-end c = omega (arith, used_length)
 
-part-clear-start : tie.Need-slice-bounds-clear-start
-part-clear-start c = search rules
+pub slice_bounds-clear-end-2 : goal.slice_bounds-clear-end-2
+slice_bounds-clear-end-2 c = omega (arith, used_length)
 
-part-clear-end : tie.Need-slice-bounds-clear-end
-part-clear-end c = omega (arith, used_length)
+pub copy-requires : goal.copy-requires
+copy-requires c = omega (arith, used_length)
 
-clear-requires : tie.Need-clear-requires
-clear-requires c κs = search rules
+pub put-requires : goal.put-requires
+put-requires c = (omega (arith, used_length _ c.before.before.before.before.before.before.before.before.before.before.before.before.before.before.before.before.before.before.requires.0), small _ _ _ _ c.take-f.ensures.1 c.before.before.before.before.before.before.before.before.before.before.before.before.before.before.before.before.before.before.requires.1 c.again.ensures)
 
-sub-clear-2 : tie.Need-overflow-sub-clear-2
-sub-clear-2 c = search rules
-
-part-clear-start-2 : tie.Need-slice-bounds-clear-start-2
-part-clear-start-2 c = search rules
-
-part-clear-end-2 : tie.Need-slice-bounds-clear-end-2
-part-clear-end-2 c = omega (arith, used_length)
-
-clear-requires-2 : tie.Need-clear-requires-2
-clear-requires-2 c κs = search rules
-
-copy-requires : tie.Need-copy-requires
-copy-requires c κs = omega (arith, used_length)
-
-again-requires : tie.Need-again-requires
-again-requires c κs = search rules
-
-put-requires : tie.Need-put-requires
-put-requires c κs = (omega (arith, used_length _ c.before.before.before.before.before.before.before.before.before.before.before.before.before.before.before.before.before.before.requires.0), small _ _ _ _ c.before.before.before.before.before.before.before.before.before.before.before.before.before.before.take.ensures.1 c.before.before.before.before.before.before.before.before.before.before.before.before.before.before.before.before.before.before.requires.1 c.again.ensures)
-
-same-length : tie.Need-same-length
-same-length c = search rules
-
-returns : tie.Need-returns
+pub returns : goal.returns
 returns c =
-    let put_back = c.before.before in
-    let copied = put_back.before.before.before.before.before in
-    let cleared = copied.before.before.before.before in
-    let lists = cleared.before.before.before.before in
-    let start = lists.before.before.before.before.before.before in
-    entered start.args.list.now lists.before.before.before.before.shared-slice-known.given _ _ _ _ _ _ _ _ _ start.requires.0 start.requires.1 start.requires.2 lists.before.before.take.ensures.0 lists.clear.ensures cleared.clear2.ensures copied.copy.ensures put_back.before.again.ensures put_back.put.ensures
-
-pub again_spec : {M : Type 1} → statement M
-again_spec =
-    tie.close
-    (tie.spec
-    take-requires
-    sub-clear
-    part-clear-start
-    part-clear-end
-    clear-requires
-    sub-clear-2
-    part-clear-start-2
-    part-clear-end-2
-    clear-requires-2
-    copy-requires
-    again-requires
-    put-requires
-    same-length
-    returns)
+    entered c.before.before.before.before.before.before.before.before.before.before.before.before.before.before.before.before.before.before.before.before.before.args.list.now c.type_inv.list _ _ _ _ _ _ _ _ _ c.before.before.before.before.before.before.before.before.before.before.before.before.before.before.before.before.before.before.before.before.before.requires.0 c.before.before.before.before.before.before.before.before.before.before.before.before.before.before.before.before.before.before.before.before.before.requires.1 c.before.before.before.before.before.before.before.before.before.before.before.before.before.before.before.before.before.before.before.before.before.requires.2 c.take-f.ensures.0 c.clear.ensures c.clear-2.ensures c.copy.ensures c.again.ensures c.put.ensures

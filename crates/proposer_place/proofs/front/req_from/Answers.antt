@@ -7,9 +7,7 @@ use borrow.Author.Tests.{ne_eqb}
 use lib.Dec.{eqb}
 use Rattle.messages.specs.declared.OptionValue.{OptionValue}
 use Rattle.messages.specs.declared.Req.{Req}
-use borrow.Author.Rules.{rules}
-use Rattle.proposer_place.proofs.front.req_from.Statement.{statement}
-use Rattle.proposer_place.proofs.front.req_from.Tie as tie
+use Rattle.proposer_place.proofs.front.req_from.Goals as goal
 
 -- a choice by the kind
 abbrev by_kind : ℕ → Req → Req
@@ -27,25 +25,14 @@ set kind r e = rw e
 cas : (kind : ℕ) (o n o' n' : OptionValue) → (kind ≡ 1 → ⊥) → (kind ≡ 2 → ⊥) → (kind ≡ 3 → ⊥) → o ≡ o' → n ≡ n' → Req.Cas o n ≡ by_kind kind (Req.Cas o' n')
 cas kind o n o' n' no-get no-del no-set eo en = rw (ne_eqb kind 1 no-get, ne_eqb kind 2 no-del, ne_eqb kind 3 no-set, eo, en)
 
-returns : tie.Need-returns
-returns c = search get
+pub returns-then-kind-eq1 : goal.returns-then-kind-eq1
+returns-then-kind-eq1 c = search get
 
-returns-2 : tie.Need-returns-2
-returns-2 c = search del
+pub returns-then-kind-eq2 : goal.returns-then-kind-eq2
+returns-then-kind-eq2 c = search del
 
-returns-3 : tie.Need-returns-3
-returns-3 c = search set
+pub returns-then-kind-eq3 : goal.returns-then-kind-eq3
+returns-then-kind-eq3 c = search set
 
-mark-from-requires : tie.Need-mark-from-requires
-mark-from-requires c κs = search rules
-
-mark-from-requires-2 : tie.Need-mark-from-requires-2
-mark-from-requires-2 c κs = search rules
-
-returns-4 : tie.Need-returns-4
-returns-4 c = search cas depth 8
-
-pub req-from-spec : {M : Type 1} → statement M
-req-from-spec =
-    tie.close
-    (tie.spec returns returns-2 returns-3 mark-from-requires mark-from-requires-2 returns-4)
+pub returns : goal.returns
+returns c = search cas depth 8

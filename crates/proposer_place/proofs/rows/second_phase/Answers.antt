@@ -18,10 +18,8 @@ use Rattle.proposer_place.specs.Area.{place_front, place_image, read_pending}
 use Rattle.proposer_place.specs.Front.{front_of, front_bytes, in_second, Small, Used}
 use Rattle.proposer_place.specs.Rows.{entries-length}
 use Rattle.proposer_place.specs.PlaceRows.{front_second, second_entered, used_length}
-use borrow.Author.Rules.{rules}
 use native.Mathlib.Omega.{arith}
-use Rattle.proposer_place.proofs.rows.second_phase.Statement.{statement}
-use Rattle.proposer_place.proofs.rows.second_phase.Tie as tie
+use Rattle.proposer_place.proofs.rows.second_phase.Goals as goal
 
 small : (f r : Front) (n : ℕ) → Small f → n ≤ 15 → r ≡ in_second f n → Small r
 small f r n s few e =
@@ -42,47 +40,17 @@ entered l known b z n₂ n₃ n f r u few full ef ez e₂ er e₃ =
     (e₂ ∙ ap (λ (m : List ℕ). sets (put_mid 52 90 b m) 52 l) cleared ∙ ap (λ (m : List ℕ). sets (put_mid 52 90 m (replicate 90 0)) 52 l) u.image)
     ∙ second_entered p u.lawful l n full few bytes
 
-take-requires : tie.Need-take-requires
-take-requires c κs = search used_length
+pub take-f-requires : goal.take-f-requires
+take-f-requires c = search used_length
 
-sub-clear : tie.Need-overflow-sub-clear
-sub-clear c = search rules
+pub slice_bounds-clear-end : goal.slice_bounds-clear-end
+slice_bounds-clear-end c = omega (arith, used_length)
 
-part-clear-start : tie.Need-slice-bounds-clear-start
-part-clear-start c = search rules
+pub copy-requires : goal.copy-requires
+copy-requires c = omega (arith, used_length)
 
-part-clear-end : tie.Need-slice-bounds-clear-end
-part-clear-end c = omega (arith, used_length)
+pub put-requires : goal.put-requires
+put-requires c = (omega (arith, used_length), search small)
 
-clear-requires : tie.Need-clear-requires
-clear-requires c κs = search rules
-
-copy-requires : tie.Need-copy-requires
-copy-requires c κs = omega (arith, used_length)
-
-second-phase-requires : tie.Need-second-phase-requires
-second-phase-requires c κs = search rules
-
-put-requires : tie.Need-put-requires
-put-requires c κs = (omega (arith, used_length), search small)
-
-same-length : tie.Need-same-length
-same-length c = search rules
-
-returns : tie.Need-returns
-returns c = search (entered c.before.before.before.before.before.before.before.before.before.before.before.before.before.before.before.before.before.args.list.now c.before.before.before.before.before.before.before.before.before.before.before.before.before.before.before.shared-slice-known.given) depth 12
-
-pub second-phase-spec : {M : Type 1} → statement M
-second-phase-spec =
-    tie.close
-    (tie.spec
-    take-requires
-    sub-clear
-    part-clear-start
-    part-clear-end
-    clear-requires
-    copy-requires
-    second-phase-requires
-    put-requires
-    same-length
-    returns)
+pub returns : goal.returns
+returns c = search (entered c.before.before.before.before.before.before.before.before.before.before.before.before.before.before.before.before.before.args.list.now c.type_inv.list) depth 12

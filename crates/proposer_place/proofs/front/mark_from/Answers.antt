@@ -6,8 +6,7 @@ use Prim.Native.Nat.{ℕ}
 use borrow.Author.Tests.{ne_eqb}
 use lib.Dec.{eqb}
 use Rattle.messages.specs.declared.OptionValue.{OptionValue}
-use Rattle.proposer_place.proofs.front.mark_from.Statement.{statement}
-use Rattle.proposer_place.proofs.front.mark_from.Tie as tie
+use Rattle.proposer_place.proofs.front.mark_from.Goals as goal
 
 missing : (x : ℕ) → x ≡ 0 → OptionValue.None ≡ cond (eqb x 0) OptionValue.None OptionValue.Some
 missing x e = rw e
@@ -15,11 +14,8 @@ missing x e = rw e
 present : (x : ℕ) → (x ≡ 0 → ⊥) → OptionValue.Some ≡ cond (eqb x 0) OptionValue.None OptionValue.Some
 present x ne = rw (ne_eqb x 0 ne)
 
-returns : tie.Need-returns
-returns c = search missing
+pub returns-then-byte-eq0 : goal.returns-then-byte-eq0
+returns-then-byte-eq0 c = search missing
 
-returns-2 : tie.Need-returns-2
-returns-2 c = search present
-
-pub mark-from-spec : {M : Type 1} → statement M
-mark-from-spec = tie.close (tie.spec returns returns-2)
+pub returns : goal.returns
+returns c = search present

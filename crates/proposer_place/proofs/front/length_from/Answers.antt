@@ -7,8 +7,7 @@ use borrow.Author.Tests.{ne_eqb}
 use lib.Dec.{eqb}
 use borrow.Author.Rules.{rules}
 use native.Mathlib.Omega.{arith}
-use Rattle.proposer_place.proofs.front.length_from.Statement.{statement}
-use Rattle.proposer_place.proofs.front.length_from.Tie as tie
+use Rattle.proposer_place.proofs.front.length_from.Goals as goal
 
 missing : (mark n : ℕ) → mark ≡ 0 → 0 ≡ cond (eqb mark 0) 0 n
 missing mark n e = rw e
@@ -19,14 +18,11 @@ cut mark len room ne h = rw (ne_eqb mark 0 ne) (omega arith)
 whole : (mark len room : ℕ) → (mark ≡ 0 → ⊥) → len ≤ room → len ≡ cond (eqb mark 0) 0 (min len room)
 whole mark len room ne h = rw (ne_eqb mark 0 ne) (omega arith)
 
-returns : tie.Need-returns
-returns c = (search missing, search rules)
+pub returns-then-mark-eq0 : goal.returns-then-mark-eq0
+returns-then-mark-eq0 c = (search missing, search rules)
 
-returns-2 : tie.Need-returns-2
-returns-2 c = (search cut, search rules)
+pub returns-then-room-n : goal.returns-then-room-n
+returns-then-room-n c = (search cut, search rules)
 
-returns-3 : tie.Need-returns-3
-returns-3 c = (search whole, search rules)
-
-pub length-from-spec : {M : Type 1} → statement M
-length-from-spec = tie.close (tie.spec returns returns-2 returns-3)
+pub returns : goal.returns
+returns c = (search whole, search rules)

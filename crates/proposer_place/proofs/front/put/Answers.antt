@@ -8,10 +8,8 @@ use Rattle.leaf_fields.specs.Stores.{sets_join}
 use Rattle.proposer_place.specs.declared.front.Front.{Front}
 use Rattle.proposer_place.specs.Front.{mark_bytes, number_bytes, count_bytes, front_bytes}
 use Rattle.proposer_place.specs.FrontLaws.{length_marks, length_numbers}
-use borrow.Author.Rules.{rules}
 use native.Mathlib.Omega.{arith}
-use Rattle.proposer_place.proofs.front.put.Statement.{statement}
-use Rattle.proposer_place.proofs.front.put.Tie as tie
+use Rattle.proposer_place.proofs.front.put.Goals as goal
 
 stored : (b n₁ n₂ n₃ : List ℕ) (f : Front) → n₁ ≡ sets b 0 (mark_bytes f) → n₂ ≡ sets n₁ 8 (number_bytes f) → n₃ ≡ sets n₂ 48 (count_bytes f) → n₃ ≡ sets b 0 (front_bytes f)
 unfolding front_bytes
@@ -20,22 +18,5 @@ stored b n₁ n₂ n₃ f e₁ e₂ e₃ =
     ∙ sets_join (sets b 0 (mark_bytes f)) (number_bytes f) (count_bytes f) 8 48 (omega (arith, length_numbers f))
     ∙ sets_join b (mark_bytes f) (number_bytes f ++ count_bytes f) 0 8 (omega (arith, length_marks f))
 
-put-marks-requires : tie.Need-put-marks-requires
-put-marks-requires c κs = search rules
-
-put-numbers-requires : tie.Need-put-numbers-requires
-put-numbers-requires c κs = search rules
-
-put-counts-requires : tie.Need-put-counts-requires
-put-counts-requires c κs = search rules
-
-same-length : tie.Need-same-length
-same-length c = search rules
-
-returns : tie.Need-returns
+pub returns : goal.returns
 returns c = search stored
-
-pub put_spec : {M : Type 1} → statement M
-put_spec =
-    tie.close
-    (tie.spec put-marks-requires put-numbers-requires put-counts-requires same-length returns)

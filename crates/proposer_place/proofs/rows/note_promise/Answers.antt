@@ -19,10 +19,8 @@ use Rattle.proposer_rules.specs.State.{with_yes}
 use Rattle.proposer_place.specs.Area.{place_front, place_image, read_pending}
 use Rattle.proposer_place.specs.Front.{front_of, front_bytes, with_promise, Small, Used}
 use Rattle.proposer_place.specs.PlaceRows.{front_promise, promise_added, used_length, used_stored, few_yeses, room_yes}
-use borrow.Author.Rules.{rules}
 use native.Mathlib.Omega.{arith}
-use Rattle.proposer_place.proofs.rows.note_promise.Statement.{statement}
-use Rattle.proposer_place.proofs.rows.note_promise.Tie as tie
+use Rattle.proposer_place.proofs.rows.note_promise.Goals as goal
 
 small : (b : List ℕ) (f r : Front) (ballot : Ballot) (mark : OptionValue) (n : ℕ) → f ≡ front_of (read_pending b) → length (read_pending b).acks_from < 15 → Small f → r ≡ with_promise f ballot mark n → Small r
 small b f r ballot mark n e few s er =
@@ -50,74 +48,21 @@ noted b n₁ z n₂ n₃ s v f r from ballot mark u few short ef es e₁ ez e₂
 fits_row : (s v : List ℕ) (mark : OptionValue) → s ≡ bytes_of (given mark v) → length (bytes_of (given mark v)) ≤ 256 → length s ≤ 256
 fits_row s v mark e short = rw e short
 
-take-requires : tie.Need-take-requires
-take-requires c κs = search used_length
+pub take-f-requires : goal.take-f-requires
+take-f-requires c = search used_length
 
-present-requires : tie.Need-present-requires
-present-requires c κs = search rules
+pub put-requires : goal.put-requires
+put-requires c = search room_yes
 
-mul-put : tie.Need-overflow-mul-put
-mul-put c = search rules
+pub slice_bounds-clear-end : goal.slice_bounds-clear-end
+slice_bounds-clear-end c = omega (arith, used_length _ c.before.before.before.before.before.before.before.before.before.before.before.requires.0)
 
-add-put : tie.Need-overflow-add-put
-add-put c = search rules
+pub copy-requires : goal.copy-requires
+copy-requires c = omega (arith, used_length _ c.before.before.before.before.before.before.before.before.before.before.before.before.before.before.before.before.requires.0, fits_row _ c.before.before.before.before.before.before.before.before.before.before.before.before.before.before.before.before.args.value.now c.before.before.before.before.before.before.before.before.before.before.before.before.before.before.before.before.args.mark c.present-bytes.ensures c.before.before.before.before.before.before.before.before.before.before.before.before.before.before.before.before.requires.2)
 
-cast-put : tie.Need-overflow-cast-put
-cast-put c = search rules
+pub put-requires-2 : goal.put-requires-2
+put-requires-2 c = (omega (arith, used_length _ c.before.before.before.before.before.before.before.before.before.before.before.before.before.before.before.before.before.before.before.before.before.requires.0), small _ _ _ _ _ _ c.take-f.ensures.0 c.before.before.before.before.before.before.before.before.before.before.before.before.before.before.before.before.before.before.before.before.before.requires.1 c.take-f.ensures.1 c.promised_by.ensures)
 
-put-requires : tie.Need-put-requires
-put-requires c κs = search room_yes
-
-sub-clear : tie.Need-overflow-sub-clear
-sub-clear c = search rules
-
-part-clear-start : tie.Need-slice-bounds-clear-start
-part-clear-start c = search rules
-
-part-clear-end : tie.Need-slice-bounds-clear-end
-part-clear-end c = omega (arith, used_length _ c.before.before.before.before.before.before.before.before.before.before.before.requires.0)
-
-clear-requires : tie.Need-clear-requires
-clear-requires c κs = search rules
-
-copy-requires : tie.Need-copy-requires
-copy-requires c κs = omega (arith, used_length _ c.before.before.before.before.before.before.before.before.before.before.before.before.before.before.before.before.requires.0, fits_row _ c.before.before.before.before.before.before.before.before.before.before.before.before.before.before.before.before.args.value.now c.before.before.before.before.before.before.before.before.before.before.before.before.before.before.before.before.args.mark c.before.before.before.before.before.before.before.before.before.before.before.present.ensures c.before.before.before.before.before.before.before.before.before.before.before.before.before.before.before.before.requires.2)
-
-promised-by-requires : tie.Need-promised-by-requires
-promised-by-requires c κs = search rules
-
-put-requires-2 : tie.Need-put-requires-2
-put-requires-2 c κs = (omega (arith, used_length _ c.before.before.before.before.before.before.before.before.before.before.before.before.before.before.before.before.before.before.before.before.before.requires.0), small _ _ _ _ _ _ c.before.before.before.before.before.before.before.before.before.before.before.before.before.before.before.before.before.take.ensures.0 c.before.before.before.before.before.before.before.before.before.before.before.before.before.before.before.before.before.before.before.before.before.requires.1 c.before.before.before.before.before.before.before.before.before.before.before.before.before.before.before.before.before.take.ensures.1 c.promised_by_lem.ensures)
-
-same-length : tie.Need-same-length
-same-length c = search rules
-
-returns : tie.Need-returns
+pub returns : goal.returns
 returns c =
-    let put_back = c.before.before in
-    let copied = put_back.before.before.before.before.before in
-    let cleared = copied.before.before.before.before in
-    let stored = cleared.before.before.before.before in
-    let presented = stored.before.before.before.before in
-    let start = presented.before.before.before.before.before in
-    noted _ _ _ _ _ _ _ _ _ _ _ _ start.requires.0 start.requires.1 start.requires.2 presented.before.take.ensures.0 presented.present.ensures stored.put.ensures cleared.clear.ensures copied.copy.ensures put_back.before.promised_by_lem.ensures put_back.put2.ensures
-
-pub note-promise-spec : {M : Type 1} → statement M
-note-promise-spec =
-    tie.close
-    (tie.spec
-    take-requires
-    present-requires
-    mul-put
-    add-put
-    cast-put
-    put-requires
-    sub-clear
-    part-clear-start
-    part-clear-end
-    clear-requires
-    copy-requires
-    promised-by-requires
-    put-requires-2
-    same-length
-    returns)
+    noted _ _ _ _ _ _ _ _ _ _ _ _ c.before.before.before.before.before.before.before.before.before.before.before.before.before.before.before.before.before.before.before.before.before.before.before.before.requires.0 c.before.before.before.before.before.before.before.before.before.before.before.before.before.before.before.before.before.before.before.before.before.before.before.before.requires.1 c.before.before.before.before.before.before.before.before.before.before.before.before.before.before.before.before.before.before.before.before.before.before.before.before.requires.2 c.take-f.ensures.0 c.present-bytes.ensures c.put.ensures c.clear.ensures c.copy.ensures c.promised_by.ensures c.put-2.ensures
