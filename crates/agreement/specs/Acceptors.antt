@@ -8,7 +8,7 @@ use mathlib.Core.List.Memᴰ
 use mathlib.Core.List.{List, [], ◌∷◌, ◌++◌}
 use Rattle.std.proofs.Math.Option.{Option}
 use Prim.Native.Nat.{ℕ}
-use Rattle.std.proofs.lemmas.Bool.{not_true}
+use Rattle.std.proofs.lemmas.Bool.{not-true}
 use Rattle.leaf_fields.specs.Fields.{same}
 use Rattle.leaf_fields.specs.Laws.{same-true, same_refl}
 use Rattle.messages.specs.declared.Ballot.{Ballot}
@@ -162,7 +162,7 @@ module _ (fixed : List ℕ) where
       accept_grows = record { arrivals = λ _ m. m; acceptances = λ _ m. Memᴰ.tail m; grants = λ _ m. m; choices = λ _ m. m; uses = λ _ m. m }
 
       least : NotAbove plant_order (holds_of (s.party a) k).seen b
-      least e = false≢true (sym (not_true (above (register_for k l).seen b) up) ∙ ap (λ (u : Held plant_order). above u.seen b) (sym (held_here k)) ∙ e)
+      least e = false≢true (sym (not-true (above (register_for k l).seen b) up) ∙ ap (λ (u : Held plant_order). above u.seen b) (sym (held_here k)) ∙ e)
 
       accept_tied : Tied fixed acceptance_plant h
       accept_tied = record {

@@ -2,7 +2,7 @@
 -- Assumes nothing.
 use Rattle.std.specs.Prelude.{◌≡◌, refl, Bool, true, false, not, cond, ◌&&◌, List, [], ◌∷◌, ◌++◌, ℕ, ◌+◌, ◌≤◌, ◌<◌, eqb, leb}
 use Rattle.std.proofs.Common.{sym, ap, ◌∙◌, arith, eqb-true, eq-eqb, ne_eqb, leb-true, le-leb}
-use Rattle.std.proofs.lemmas.Bool.{false≢true, not_true}
+use Rattle.std.proofs.lemmas.Bool.{false≢true, not-true}
 use Rattle.std.proofs.Math.Option.{Option, none, some}
 use Rattle.leaf_fields.specs.Laws.{and_true}
 use Rattle.messages.specs.declared.Ballot.{Ballot}
@@ -49,7 +49,7 @@ none_longer x [] k h n = refl
 none_longer x (y ∷ l) k h n =
     let parts = or_false (eqb y x) (listed x l) h in
     let apart = and_true (not (listed y k)) (each_listed false l k) n in
-    rw (listed_last x y k (not_true _ apart.0) (eqb_turn y x parts.0), none_longer x l k parts.1 apart.1)
+    rw (listed_last x y k (not-true _ apart.0) (eqb_turn y x parts.0), none_longer x l k parts.1 apart.1)
 
 -- ---- one more answer
 
@@ -198,7 +198,7 @@ distinct_dropped b [] d = refl
 distinct_dropped b (none ∷ l) d = distinct_dropped b l d
 distinct_dropped b (some q ∷ l) d =
     let parts = and_true (not (listed q.ballot.0 (ballots_of l))) (distinct (ballots_of l)) d in
-    go (is_ballot b q) parts.1 (rw (not_listed_dropped q.ballot.0 b l (not_true _ parts.0), distinct_dropped b l parts.1))
+    go (is_ballot b q) parts.1 (rw (not_listed_dropped q.ballot.0 b l (not-true _ parts.0), distinct_dropped b l parts.1))
   where
     go : (t : Bool) → distinct (ballots_of l) ≡ true → distinct (ballots_of (some q ∷ replace_at b none l)) ≡ true → distinct (ballots_of (cond t (none ∷ l) (some q ∷ replace_at b none l))) ≡ true
     go true hl hr = hl
@@ -225,7 +225,7 @@ distinct_fresh b p (some q ∷ l) d fresh =
     let parts = and_true (not (listed q.ballot.0 (ballots_of l))) (distinct (ballots_of l)) d in
     let new = or_false (eqb q.ballot.0 p.ballot.0) (listed p.ballot.0 (ballots_of l)) fresh in
     go (is_ballot b q) (rw (new.1, parts.1))
-    (rw (not_listed_fresh q.ballot.0 b p l (not_true _ parts.0) (eqb_turn q.ballot.0 p.ballot.0 new.0), distinct_fresh b p l parts.1 new.1))
+    (rw (not_listed_fresh q.ballot.0 b p l (not-true _ parts.0) (eqb_turn q.ballot.0 p.ballot.0 new.0), distinct_fresh b p l parts.1 new.1))
   where
     go : (t : Bool) → distinct (ballots_of (some p ∷ l)) ≡ true → distinct (ballots_of (some q ∷ replace_at b (some p) l)) ≡ true → distinct (ballots_of (cond t (some p ∷ l) (some q ∷ replace_at b (some p) l))) ≡ true
     go true hl hr = hl
@@ -246,7 +246,7 @@ distinct_taken p (none ∷ l) d fresh = rw (fresh, d)
 distinct_taken p (some q ∷ l) d fresh =
     let parts = and_true (not (listed q.ballot.0 (ballots_of l))) (distinct (ballots_of l)) d in
     let new = or_false (eqb q.ballot.0 p.ballot.0) (listed p.ballot.0 (ballots_of l)) fresh in
-    rw (not_listed_taken q.ballot.0 p l (not_true _ parts.0) (eqb_turn q.ballot.0 p.ballot.0 new.0), distinct_taken p l parts.1 new.1)
+    rw (not_listed_taken q.ballot.0 p l (not-true _ parts.0) (eqb_turn q.ballot.0 p.ballot.0 new.0), distinct_taken p l parts.1 new.1)
 
 -- ---- late requests dropped
 
@@ -280,7 +280,7 @@ distinct-in_time s t [] d = refl
 distinct-in_time s t (none ∷ l) d = distinct-in_time s t l d
 distinct-in_time s t (some p ∷ l) d =
     let parts = and_true (not (listed p.ballot.0 (ballots_of l))) (distinct (ballots_of l)) d in
-    go (late s t p) (distinct-in_time s t l parts.1) (not_listed_in_time s t p.ballot.0 l (not_true _ parts.0))
+    go (late s t p) (distinct-in_time s t l parts.1) (not_listed_in_time s t p.ballot.0 l (not-true _ parts.0))
   where
     go : (z : Bool) → distinct (ballots_of (in_time s t l)) ≡ true → listed p.ballot.0 (ballots_of (in_time s t l)) ≡ false → distinct (ballots_of (cond z none (some p) ∷ in_time s t l)) ≡ true
     go true hd hl = hd

@@ -3,7 +3,7 @@
 use Rattle.std.specs.Prelude.{◌≡◌, refl, Bool, true, false, not, cond, ◌||◌, List, [], leb, length}
 use Rattle.std.proofs.Common.{sym, subst, ◌∙◌}
 use Rattle.std.proofs.Math.Path.{ap}
-use Rattle.std.proofs.lemmas.Bool.{false≢true, not_true, not-false}
+use Rattle.std.proofs.lemmas.Bool.{false≢true, not-true, not-false}
 use Rattle.std.proofs.Math.Option.{Option, none, some}
 use Prim.Native.Nat.{ℕ, ◌+◌, ◌^◌, ◌<◌, max}
 use Rattle.std.proofs.lemmas.List.Edits.{sets}
@@ -99,7 +99,7 @@ module _ (a w : List ℕ) (n i : ℕ) (f : Front) (from : Address) (short : Bool
     pub acceptance_noted : (a₁ : List ℕ) → short ≡ true → from.0 < 2 ^ 16 → a₁ ≡ sets a (place_at i) (place_image (some q)) → Worked w (acceptance_work state p from Result.Ok) Answer.Nothing a₁ w
     acceptance_noted a₁ few fits ea =
         let ok : Lawful p = lawful_pending a n held i asks.pends in
-        rw (yeses_reached ∙ not_true _ (sym es ∙ few))
+        rw (yeses_reached ∙ not-true _ (sym es ∙ few))
         record {
           answer = refl;
           area = ea ∙ with_place a n held i (some q) asks.pends.within (lawful_yes p ok from p.promised p.value fits asks.more_yeses ok.promised_fits ok.promised) ∙ ap area_image (sym (replaced state.counter (some q)));
@@ -122,7 +122,7 @@ module _ (a w : List ℕ) (n i : ℕ) (f : Front) (from : Address) (short : Bool
 
     pub turned_noted : (a₁ : List ℕ) → short ≡ true → a₁ ≡ area_image (placed state counter i (some (with_no p from))) → Worked w (acceptance_work state p from (Result.Err (Failure.AcceptRejected last))) Answer.Nothing a₁ w
     turned_noted a₁ few ea =
-        rw (noes_reached ∙ not_true _ (sym es ∙ few))
+        rw (noes_reached ∙ not-true _ (sym es ∙ few))
         record {
           answer = refl;
           area = ea ∙ ap (λ (c : ℕ). area_image (placed state c i (some (with_no p from)))) counter_same ∙ ap area_image (sym (replaced (raised state.counter last) (some (with_no p from))));

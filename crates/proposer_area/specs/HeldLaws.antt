@@ -1,14 +1,13 @@
 -- What holds of an area that is an image: its size, its places, and the area with another counter or another place.
 -- Assumes nothing.
-use Rattle.std.specs.Prelude.{◌≡◌, true, ◌&&◌, List, [], ◌∷◌, ℕ, zero, suc, ◌+◌, ◌-◌, ◌*◌, ◌≤◌, ◌<◌, eqb, leb, length, get_or, set, take, drop}
+use Rattle.std.specs.Prelude.{◌≡◌, true, List, [], ◌∷◌, ℕ, zero, suc, ◌+◌, ◌-◌, ◌*◌, ◌≤◌, ◌<◌, length, get_or, set, take, drop}
 use Rattle.std.proofs.Math.Path.{refl, sym, ap}
-use Rattle.std.proofs.Common.{subst, ◌∙◌, append-nil, zero-add, suc-add, eqb-true, leb-true, le-leb, eq-eqb, length-append, take-take, drop-drop}
+use Rattle.std.proofs.Common.{subst, ◌∙◌, append-nil, zero-add, suc-add, le-leb, eq-eqb, length-append, take-take, drop-drop}
 use Rattle.std.proofs.Math.Option.{Option, none, some}
 use native.Mathlib.Omega.{arith}
 use Rattle.std.proofs.lemmas.List.Edits.{sets}
 use Rattle.std.proofs.Math.Seq.{take-nil, drop-nil}
 use Rattle.leaf_fields.specs.Fields.{to_le, part, byte, Bytes}
-use Rattle.leaf_fields.specs.Laws.{and_true}
 use Rattle.messages.specs.Limits.{list_most, pending_most}
 use Rattle.messages.specs.Answers.{bytes_of, entries, entry_bytes}
 use Rattle.proposer_rules.specs.State.{Pending, Proposer, key_of}

@@ -3,7 +3,7 @@
 use Rattle.std.specs.Prelude.{◌≡◌, Bool, not, cond, ◌&&◌, length, get_or, set}
 use Rattle.std.proofs.Math.Path.{refl, ap}
 use Rattle.std.proofs.Common.{sym, ◌∙◌, arith, ltb-true, ltb-false}
-use Rattle.std.proofs.Math.Bool.{true, false, and_true}
+use Rattle.std.proofs.Math.Bool.{true, false, and-true}
 use mathlib.Core.List.{List, [], ◌∷◌}
 use Rattle.std.proofs.Math.Option.{Option, none, some}
 use Prim.Native.Nat.{ℕ, suc, ◌≤◌, ◌<◌}
@@ -110,7 +110,7 @@ module _ (s : Proposer) (t : ℕ) (l : List (Option Pending)) where
     unfolding late_of insert
     with_late o (nothing_late e n) =
         late_at 0 (rw (o, n.lowest p.ballot)) (omega arith)
-        (lowest_here o (rw n.nothing) (λ b. rw (n.lowest b) (and_true (not (above b p.ballot)))))
+        (lowest_here o (rw n.nothing) (λ b. rw (n.lowest b) (and-true (not (above b p.ballot)))))
     with_late o (late_at i e h f) = before_others i f e h o (above p.ballot f.pending.ballot) refl
 
     with_one : (o : Bool) → late s t p ≡ o → Lateness s t l → Lateness s t (some p ∷ l)

@@ -2,7 +2,7 @@
 -- Assumes nothing.
 use Rattle.std.specs.Prelude.{◌≡◌, refl, Bool, true, false, not, ◌&&◌, ◌||◌, List, [], ◌∷◌, ◌++◌, ℕ, eqb}
 use Rattle.std.proofs.Common.{sym, ap, ◌∙◌}
-use Rattle.std.proofs.Math.Bool.{and_true, and_assoc, or_assoc}
+use Rattle.std.proofs.Math.Bool.{and-true, and_assoc, or_assoc}
 use Rattle.messages.specs.Limits.{none_zero}
 use Rattle.proposer_rules.specs.State.{listed}
 use Rattle.proposer_place.specs.Area.{distinct, all_listed}
@@ -32,7 +32,7 @@ all_listed_append (x ∷ l) m k = ap (λ (r : Bool). listed x k && r) (all_liste
 
 pub distinct_append : (l m : List ℕ) → distinct (l ++ m) ≡ (distinct l && distinct m && each_listed false l m)
 unfolding distinct each_listed
-distinct_append [] m = sym (and_true (distinct m))
+distinct_append [] m = sym (and-true (distinct m))
 distinct_append (x ∷ l) m =
     ap (λ (r : Bool). not r && distinct (l ++ m)) (listed_append x l m)
     ∙ ap (λ (r : Bool). not (listed x l || listed x m) && r) (distinct_append l m)

@@ -5,7 +5,7 @@ use Rattle.std.proofs.Common.{sym, subst, ◌∙◌, arith, le-leb}
 use Rattle.std.proofs.Math.Path.{ap}
 use Rattle.std.proofs.Math.Option.{Option, none, some}
 use Prim.Native.Nat.{ℕ, zero, suc, ◌+◌, ◌^◌, ◌<◌, max}
-use Rattle.std.proofs.lemmas.Bool.{not_true, not-false, lt-leb}
+use Rattle.std.proofs.lemmas.Bool.{not-true, not-false, lt-leb}
 use Rattle.std.proofs.lemmas.List.Edits.{sets}
 use Rattle.messages.specs.declared.Address.{Address}
 use Rattle.messages.specs.declared.Ballot.{Ballot}
@@ -146,7 +146,7 @@ module _ (a w : List ℕ) (n i : ℕ) (f : Front) (from : Address) (b : Ballot) 
     pub promise_noted : short ≡ true → Worked w (granting state p from b v) Answer.Nothing a₁ w
     promise_noted few =
         due_none w state promise_due (granted state q) Answer.Nothing a₁ w (rw (allowed t ballot eb et fine))
-        (rw (reached_by ∙ not_true _ (sym es ∙ few))
+        (rw (reached_by ∙ not-true _ (sym es ∙ few))
         record {
           answer = refl;
           area = ea ∙ with_place a n held i (some q) asks.pends.within ok ∙ ap area_image (sym (replaced (some q)));
@@ -197,7 +197,7 @@ module _ (a w : List ℕ) (n i : ℕ) (f : Front) (h : Header) (from : Address) 
 
   pub refusal_noted : (a₁ : List ℕ) → short ≡ true → a₁ ≡ area_image (placed before counter i (some (with_no asked_one from))) → Worked w (rejecting before asked_one from last b v) Answer.Nothing a₁ w
   refusal_noted a₁ few ea =
-      let not_yet : reached (with_no asked_one from).nacks_from asked_one.waiting_for ≡ false = noes_reached ∙ not_true _ (sym es ∙ few) in
+      let not_yet : reached (with_no asked_one from).nacks_from asked_one.waiting_for ≡ false = noes_reached ∙ not-true _ (sym es ∙ few) in
       due_none w before ballot_due (rejected before asked_one from last) Answer.Nothing a₁ w (rw not_yet)
       (rw not_yet
       record {

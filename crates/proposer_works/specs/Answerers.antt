@@ -2,7 +2,7 @@
 -- Assumes nothing.
 use Rattle.std.specs.Prelude.{◌≡◌, refl, Bool, true, false, not, cond, ◌||◌, List, [], ◌∷◌, ◌++◌, ℕ, suc, ◌+◌, ◌≤◌, ◌<◌, eqb, length}
 use Rattle.std.proofs.Common.{sym, ◌∙◌, arith, eq-eqb, ne_eqb, length-append}
-use Rattle.std.proofs.lemmas.Bool.{false≢true, not_true}
+use Rattle.std.proofs.lemmas.Bool.{false≢true, not-true}
 use Rattle.std.proofs.Math.Decide.{ℕ_discrete}
 use Rattle.leaf_fields.specs.Laws.{and_true}
 use Rattle.messages.specs.Limits.{list_most}
@@ -62,7 +62,7 @@ no_more [] l d all = omega arith
 no_more (x ∷ xs) l d all =
     let ds = and_true (not (listed x xs)) (distinct xs) d in
     let parts = and_true (listed x l) (all_listed xs l) all in
-    omega (arith, length-without x l parts.0, no_more xs (without x l) ds.1 (all_without x xs l (not_true _ ds.0) parts.1))
+    omega (arith, length-without x l parts.0, no_more xs (without x l) ds.1 (all_without x xs l (not-true _ ds.0) parts.1))
 
 -- ---- room for one more answer
 

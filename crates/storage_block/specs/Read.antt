@@ -4,7 +4,7 @@ use Rattle.std.specs.Prelude.{◌≡◌, refl, Bool, true, false, not, cond, ◌
 use Rattle.std.proofs.Common.{sym, ◌∙◌, arith, eqb-true, leb-true, length-drop, length-take, take-append-drop, drop-drop, take_all}
 use Rattle.std.proofs.Math.Path.{ap}
 use Rattle.std.proofs.Math.Option.{none, some}
-use Rattle.std.proofs.lemmas.Bool.{eqb-false, not_true}
+use Rattle.std.proofs.lemmas.Bool.{eqb-false, not-true}
 use Rattle.std.proofs.Math.ListN.{length}
 use Rattle.leaf_fields.specs.Fields.{from_le, to_le, part, span, byte, all_zero, Bytes, padded}
 use Rattle.leaf_fields.specs.Laws.{and_true, zeros_are, length-part, bytes_part}
@@ -45,7 +45,7 @@ head_of_lem b h =
       mark_bit = m;
       value_short = omega arith;
       value_marked = v;
-      ordered = not_true order toOrder.1;
+      ordered = not-true order toOrder.1;
     }
 
 -- the bytes of the register's value, also where there is none

@@ -4,7 +4,7 @@ use Rattle.std.proofs.Math.Path.{◌≡◌, refl}
 use Rattle.std.proofs.Common.{sym, ap, ◌∙◌, add-zero, zero-add, add-one, eqb-true, length-set, length-drop, ext_get_or, get_or-set_same, get_or-set_other}
 use Rattle.std.specs.Prelude.{Bool, not, cond, ◌&&◌, List, [], ◌∷◌, eqb, get_or, take, drop, set}
 use Rattle.std.proofs.Math.Bool.{true, false}
-use Rattle.std.proofs.lemmas.Bool.{false≢true, not_true}
+use Rattle.std.proofs.lemmas.Bool.{false≢true, not-true}
 use Rattle.std.proofs.Math.Option.{Option, none, some}
 use Prim.Native.Nat.{ℕ, zero, suc, ◌+◌, ◌-◌, ◌*◌, ◌≤◌, ◌<◌}
 use Rattle.std.proofs.Math.Nat.{sub-zero}
@@ -48,7 +48,7 @@ slot_at t n i h = from_at t 0 n i h ∙ ap (λ (k : ℕ). slot_of (block_at t k)
 none_bad_at : (l : List Slot) (j : ℕ) → none_bad l ≡ true → j < length l → is_bad (get_or l j free) ≡ false
 unfolding none_bad
 none_bad_at [] j h lt = refl
-none_bad_at (s ∷ l) zero h lt = not_true (is_bad s) (and_true (not (is_bad s)) (none_bad l) h).0
+none_bad_at (s ∷ l) zero h lt = not-true (is_bad s) (and_true (not (is_bad s)) (none_bad l) h).0
 none_bad_at (s ∷ l) (suc j) h lt = none_bad_at l j (and_true (not (is_bad s)) (none_bad l) h).1 (omega arith)
 
 -- no block of a sound table is bad

@@ -5,7 +5,7 @@ use mathlib.Core.Bool.{Bool, true}
 use mathlib.Core.List.{List}
 use mathlib.Core.Option.{Option}
 use Prim.Native.Nat.{ℕ, ◌+◌, ◌-◌, ◌*◌, ◌≤◌}
-use borrow.Author.Tests.{not_true, not-false}
+use borrow.Author.Tests.{not-true, not-false}
 use borrow.Rule.Slice.PartMut.{put_mid}
 use lib.ListN.{length, take, drop}
 use Rattle.messages.specs.declared.Address.{Address}
@@ -30,7 +30,7 @@ accepted_placed : (t ys key : List ℕ) (i : ℕ) (fits : Bool) (from : Address)
 accepted_placed t ys key i fits from ballot o r f h = work_placed (accepted ballot o (register_with key (block_at t i))) from t ys i fits r f (rw lent_block at h)
 
 returns : tie.Need-returns
-returns c = search (refused_placed, not_true)
+returns c = search (refused_placed, not-true)
 
 mul-a : tie.Need-overflow-mul-a
 mul-a c = search rules

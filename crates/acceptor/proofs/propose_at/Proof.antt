@@ -4,7 +4,7 @@ use mathlib.Core.Path.{◌≡◌}
 use mathlib.Core.Bool.{Bool, true, false, cond}
 use mathlib.Core.List.{List}
 use Prim.Native.Nat.{ℕ, ◌+◌, ◌-◌, ◌*◌, ◌≤◌}
-use borrow.Author.Tests.{not_true, not-false}
+use borrow.Author.Tests.{not-true, not-false}
 use borrow.Rule.Slice.PartMut.{put_mid}
 use lib.ListN.{length, take, drop}
 use lib.Seq.{sets}
@@ -39,7 +39,7 @@ proposed_placed : (t ys key : List ℕ) (i : ℕ) (fits : Bool) (from : Address)
 proposed_placed t ys key i fits from ballot r f h = work_placed (proposed ballot (register_with key (block_at t i))) from t ys i fits r f (rw lent_block at h)
 
 returns : tie.Need-returns
-returns c = (search (refused_placed, not_true), search (kept_area, not_true))
+returns c = (search (refused_placed, not-true), search (kept_area, not-true))
 
 mul-a : tie.Need-overflow-mul-a
 mul-a c = search rules

@@ -5,7 +5,7 @@ use mathlib.Core.Bool.{Bool, true, false}
 use mathlib.Core.List.{List}
 use mathlib.Core.Option.{none}
 use Prim.Native.Nat.{ℕ}
-use borrow.Author.Tests.{not_true, not-false}
+use borrow.Author.Tests.{not-true, not-false}
 use lib.ListN.{length}
 use Rattle.messages.specs.declared.Address.{Address}
 use Rattle.messages.specs.declared.Rpc.{Rpc}
@@ -58,13 +58,13 @@ same-length : tie.Need-same-length
 same-length c = search rules
 
 returns : tie.Need-returns
-returns c = search (wrong_size, not_true) depth 8
+returns c = search (wrong_size, not-true) depth 8
 
 same-length-2 : tie.Need-same-length-2
 same-length-2 c = search rules
 
 returns-2 : tie.Need-returns-2
-returns-2 c = search (wrong_area, not_true, not-false) depth 8
+returns-2 c = search (wrong_area, not-true, not-false) depth 8
 
 is-sound-requires : tie.Need-is-sound-requires
 is-sound-requires c κs = sized _ _ _ c.before.before.before.is-sized.ensures (not-false _ c.before.before.if1.false)
@@ -73,7 +73,7 @@ same-length-3 : tie.Need-same-length-3
 same-length-3 c = search rules
 
 returns-3 : tie.Need-returns-3
-returns-3 c = search (damaged, not_true, not-false) depth 9
+returns-3 c = search (damaged, not-true, not-false) depth 9
 
 fits-requires : tie.Need-fits-requires
 fits-requires c κs = search rules

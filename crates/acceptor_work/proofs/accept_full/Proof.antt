@@ -1,12 +1,12 @@
 -- `acceptor_work::accept_full` meets its contract: the limits come before the missing block.
 -- Assumes nothing.
-use borrow.Author.Tests.{not_true, not-false}
+use borrow.Author.Tests.{not-true, not-false}
 use Rattle.leaf_fields.specs.Laws.{cond-true, cond-false}
 use Rattle.acceptor_work.proofs.accept_full.Statement.{statement}
 use Rattle.acceptor_work.proofs.accept_full.Tie as tie
 
 returns : tie.Need-returns
-returns c = search (cond-false, not_true)
+returns c = search (cond-false, not-true)
 
 returns-2 : tie.Need-returns-2
 returns-2 c = search (cond-true, not-false)

@@ -3,7 +3,7 @@
 use mathlib.Core.Path.{◌≡◌, sym, ◌∙◌}
 use mathlib.Core.Bool.{Bool, true, false}
 use mathlib.Core.List.{[]}
-use borrow.Author.Tests.{not_true, not-false}
+use borrow.Author.Tests.{not-true, not-false}
 use Rattle.messages.specs.declared.Address.{Address}
 use Rattle.messages.specs.declared.Ballot.{Ballot}
 use Rattle.messages.specs.declared.OptionValue.{OptionValue}
@@ -31,7 +31,7 @@ module _ (from : Address) (ballot : Ballot) (fits : Bool) where
   rejected ab f e t = rw (f, sym e ∙ t)
 
 returns : tie.Need-returns
-returns c = search (over_limit, not_true)
+returns c = search (over_limit, not-true)
 
 above-requires : tie.Need-above-requires
 above-requires c κs = search rules

@@ -5,7 +5,7 @@ use mathlib.Core.Bool.{Bool, true, false}
 use mathlib.Core.List.{List}
 use Prim.Native.Nat.{ℕ, ◌-◌, ◌≤◌}
 use native.Mathlib.Nat.{sub-zero}
-use borrow.Author.Tests.{not_true, not-false}
+use borrow.Author.Tests.{not-true, not-false}
 use lib.ListN.{length, take, drop, length-take}
 use lib.Seq.{sets, length-sets}
 use Rattle.messages.specs.declared.Address.{Address}
@@ -70,7 +70,7 @@ same-length-2 : tie.Need-same-length-2
 same-length-2 c = search rules
 
 returns : tie.Need-returns
-returns c = (search (rejected, not_true) depth 9, search rules)
+returns c = (search (rejected, not-true) depth 9, search rules)
 
 sub-write : tie.Need-overflow-sub-write
 sub-write c = search rules

@@ -5,7 +5,7 @@ use mathlib.Core.Bool.{Bool, true, false, not}
 use mathlib.Core.List.{List}
 use Prim.Native.Nat.{ℕ, ◌≤◌}
 use native.Mathlib.Omega.{arith}
-use borrow.Author.Tests.{not_true, not-false}
+use borrow.Author.Tests.{not-true, not-false}
 use lib.ListN.{length}
 use Rattle.leaf_fields.specs.Fields.{Bytes}
 use Rattle.messages.specs.declared.Address.{Address}
@@ -53,7 +53,7 @@ held_at c = held _ _ _ _ (area_bytes c.before.before.before.before.before.before
 module _ (a w : List ℕ) (n : ℕ) (from : Address) (at : ℕ) (m : Message) where
   other_size : (s : Bool) → s ≡ sized a n → not s ≡ true → Done a w (outcome_on a n w from at m) (Answer.Refused Refusal.AreaSize) a w
   unfolding outcome_on
-  other_size s es h = wrong_size a w n (Rules.receive (read_area a n) from at m) s es (not_true s h)
+  other_size s es h = wrong_size a w n (Rules.receive (read_area a n) from at m) s es (not-true s h)
 
   other_answer : (s : Bool) → s ≡ sized a n → not s ≡ false → (length w ≡ answer_bytes n → ⊥) → Done a w (outcome_on a n w from at m) (Answer.Refused Refusal.AreaSize) a w
   unfolding outcome_on
@@ -61,7 +61,7 @@ module _ (a w : List ℕ) (n : ℕ) (from : Address) (at : ℕ) (m : Message) wh
 
   damaged : (s d : Bool) → s ≡ sized a n → not s ≡ false → length w ≡ answer_bytes n → d ≡ is_image a n → not d ≡ true → Done a w (outcome_on a n w from at m) (Answer.Refused Refusal.Damaged) a w
   unfolding outcome_on
-  damaged s d es h size ed bad = no_image a w n (Rules.receive (read_area a n) from at m) s d es (not-false s h) size ed (not_true d bad)
+  damaged s d es h size ed bad = no_image a w n (Rules.receive (read_area a n) from at m) s d es (not-false s h) size ed (not-true d bad)
 
   done : (s d : Bool) (r : Answer) (a' w′ : List ℕ) → Held a n → s ≡ sized a n → not s ≡ false → length w ≡ answer_bytes n → d ≡ is_image a n → not d ≡ false → Worked w (Rules.receive (read_area a n) from at m) r a' w′ → Done a w (outcome_on a n w from at m) r a' w′
   done s d r a' w′ image es h size ed g work = received a w n s d es (not-false s h) size ed (not-false d g) image r a' w′ from at m work

@@ -4,7 +4,7 @@ use mathlib.Core.Path.{◌≡◌, sym, ◌∙◌}
 use mathlib.Core.Bool.{Bool, true, false, not}
 use mathlib.Core.List.{List}
 use Prim.Native.Nat.{ℕ}
-use borrow.Author.Tests.{not_true, not-false}
+use borrow.Author.Tests.{not-true, not-false}
 use Rattle.messages.specs.declared.answer.Answer.{Answer}
 use Rattle.messages.specs.declared.answer.Refusal.{Refusal}
 use Rattle.messages.specs.Limits.{list_fits}
@@ -17,10 +17,10 @@ use Rattle.proposer.proofs.start.Statement.{statement}
 use Rattle.proposer.proofs.start.Tie as tie
 
 wrong_size : (a : List ℕ) (n t : ℕ) (l : List ℕ) (s : Bool) → s ≡ sized a n → not s ≡ true → Started a (start_on a n t l) (Answer.Refused Refusal.AreaSize) a
-wrong_size a n t l s es h = start_size a n t l s es (not_true s h)
+wrong_size a n t l s es h = start_size a n t l s es (not-true s h)
 
 over_limit : (a : List ℕ) (n t : ℕ) (l : List ℕ) (s f : Bool) → s ≡ sized a n → not s ≡ false → f ≡ list_fits l → not f ≡ true → Started a (start_on a n t l) (Answer.Refused Refusal.OverLimit) a
-over_limit a n t l s f es h ef over = start_over a n t l s es f (not-false s h) ef (not_true f over)
+over_limit a n t l s f es h ef over = start_over a n t l s es f (not-false s h) ef (not-true f over)
 
 begun : (a : List ℕ) (n t : ℕ) (l : List ℕ) (s f : Bool) (a' : List ℕ) → s ≡ sized a n → not s ≡ false → f ≡ list_fits l → not f ≡ false → a' ≡ area_image (Rules.start t l n) → Started a (start_on a n t l) Answer.Nothing a'
 begun a n t l s f a' es h ef fits e = start_done a n t l s es f a' (not-false s h) ef (not-false f fits) e

@@ -5,7 +5,7 @@ use mathlib.Core.Bool.{Bool, true, false, not}
 use mathlib.Core.List.{List}
 use Prim.Native.Nat.{ℕ, ◌≤◌}
 use native.Mathlib.Omega.{arith}
-use borrow.Author.Tests.{not_true, not-false}
+use borrow.Author.Tests.{not-true, not-false}
 use lib.ListN.{length}
 use Rattle.leaf_fields.specs.Fields.{Bytes}
 use Rattle.messages.specs.declared.answer.Answer.{Answer}
@@ -43,7 +43,7 @@ area_bytes c = λ i. (c.slice-known.given i).fits
 
 other_size : (a w : List ℕ) (n t : ℕ) (s : Bool) → s ≡ sized a n → not s ≡ true → Done a w (tick_on a n w t) (Answer.Refused Refusal.AreaSize) a w
 unfolding tick_on
-other_size a w n t s es h = wrong_size a w n (Rules.tick (read_area a n) t) s es (not_true s h)
+other_size a w n t s es h = wrong_size a w n (Rules.tick (read_area a n) t) s es (not-true s h)
 
 other_answer : (a w : List ℕ) (n t : ℕ) (s : Bool) → s ≡ sized a n → not s ≡ false → (length w ≡ answer_bytes n → ⊥) → Done a w (tick_on a n w t) (Answer.Refused Refusal.AreaSize) a w
 unfolding tick_on
@@ -51,7 +51,7 @@ other_answer a w n t s es h ne = wrong_answer a w n (Rules.tick (read_area a n) 
 
 damaged : (a w : List ℕ) (n t : ℕ) (s d : Bool) → s ≡ sized a n → not s ≡ false → length w ≡ answer_bytes n → d ≡ is_image a n → not d ≡ true → Done a w (tick_on a n w t) (Answer.Refused Refusal.Damaged) a w
 unfolding tick_on
-damaged a w n t s d es h size ed bad = no_image a w n (Rules.tick (read_area a n) t) s d es (not-false s h) size ed (not_true d bad)
+damaged a w n t s d es h size ed bad = no_image a w n (Rules.tick (read_area a n) t) s d es (not-false s h) size ed (not-true d bad)
 
 done : (a w : List ℕ) (n t : ℕ) (s d : Bool) (r : Answer) (a' w′ : List ℕ) → Bytes a → s ≡ sized a n → not s ≡ false → length w ≡ answer_bytes n → d ≡ is_image a n → not d ≡ false → Worked w (Rules.tick (read_area a n) t) r a' w′ → Done a w (tick_on a n w t) r a' w′
 done a w n t s d r a' w′ bytes es h size ed g work = ticked a w n s d es (not-false s h) size ed (not-false d g) (held a n s d bytes es h ed g) r a' w′ t work

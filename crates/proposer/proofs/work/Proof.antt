@@ -5,7 +5,7 @@ use mathlib.Core.Bool.{Bool, true, false, not, ◌&&◌}
 use mathlib.Core.List.{List}
 use mathlib.Core.Option.{Option}
 use Prim.Native.Nat.{ℕ}
-use borrow.Author.Tests.{not_true, not-false}
+use borrow.Author.Tests.{not-true, not-false}
 use lib.Dec.{eqb}
 use Rattle.leaf_fields.specs.Laws.{and_true}
 use Rattle.messages.specs.declared.Address.{Address}
@@ -92,7 +92,7 @@ returns : tie.Need-returns
 returns c =
     let first = c.before.before.before.before.before.before.before.before in
     let args = first.args in
-    Laws.beyond_limits args.area.now args.answer.now args.places args.from args.at (message_of args.rpc args.key.now args.value.now args.other.now args.list.now) first.requires.0 args.fits _ (c.over_limit.ensures args.key.now args.value.now args.other.now args.list.now) first.requires.3 (not_true args.fits c.before.if1.true)
+    Laws.beyond_limits args.area.now args.answer.now args.places args.from args.at (message_of args.rpc args.key.now args.value.now args.other.now args.list.now) first.requires.0 args.fits _ (c.over_limit.ensures args.key.now args.value.now args.other.now args.list.now) first.requires.3 (not-true args.fits c.before.if1.true)
 
 enum-known-rpc : tie.Need-enum-known-rpc
 enum-known-rpc c = search rules

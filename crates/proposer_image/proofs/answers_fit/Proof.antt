@@ -5,7 +5,7 @@ use mathlib.Core.Bool.{Bool, true, false}
 use mathlib.Core.Bool as Booleans
 use mathlib.Core.List.{List}
 use Prim.Native.Nat.{ℕ, ◌+◌, ◌-◌, ◌*◌, ◌≤◌}
-use borrow.Author.Tests.{not_true, not-false}
+use borrow.Author.Tests.{not-true, not-false}
 use lib.ListN.{length}
 use Rattle.messages.specs.Answers.{entries}
 use Rattle.proposer_place.specs.declared.front.Front.{Front}
@@ -50,31 +50,31 @@ each-listed-requires : tie.Need-each-listed-requires
 each-listed-requires c κs = (search yes_room, search waited_room)
 
 returns : tie.Need-returns
-returns c = search (yes_unlisted, not_true, not-false) depth 9
+returns c = search (yes_unlisted, not-true, not-false) depth 9
 
 each-listed-requires-2 : tie.Need-each-listed-requires-2
 each-listed-requires-2 c κs = (search no_room, search waited_room)
 
 returns-2 : tie.Need-returns-2
-returns-2 c = search (no_unlisted, not_true, not-false) depth 12
+returns-2 c = search (no_unlisted, not-true, not-false) depth 12
 
 distinct-requires : tie.Need-distinct-requires
 distinct-requires c κs = search yes_room
 
 returns-3 : tie.Need-returns-3
-returns-3 c = search (yes_twice, not_true, not-false) depth 14
+returns-3 c = search (yes_twice, not-true, not-false) depth 14
 
 distinct-requires-2 : tie.Need-distinct-requires-2
 distinct-requires-2 c κs = search no_room
 
 returns-4 : tie.Need-returns-4
-returns-4 c = search (no_twice, not_true, not-false) depth 16
+returns-4 c = search (no_twice, not-true, not-false) depth 16
 
 each-listed-requires-3 : tie.Need-each-listed-requires-3
 each-listed-requires-3 c κs = (search yes_room, search no_room)
 
 returns-5 : tie.Need-returns-5
-returns-5 c = search (by_both, not_true, not-false) depth 18
+returns-5 c = search (by_both, not-true, not-false) depth 18
 
 pub answers-fit-spec : {M : Type 1} → statement M
 answers-fit-spec =

@@ -6,7 +6,7 @@ use mathlib.Core.List.{List, ◌∷◌}
 use mathlib.Core.Option.{Option, none, some}
 use Prim.Native.Nat.{ℕ, ◌+◌, ◌-◌, ◌≤◌, ◌<◌}
 use native.Mathlib.Nat.{sub-zero}
-use borrow.Author.Tests.{not_true, not-false}
+use borrow.Author.Tests.{not-true, not-false}
 use lib.Dec.{eqb}
 use Rattle.leaf_fields.specs.Fields.{byte}
 use Rattle.messages.specs.declared.Ballot.{Ballot}
@@ -102,19 +102,19 @@ held-requires : tie.Need-held-requires invariant-loop decreases-loop
 held-requires c κs = search rules
 
 returns : tie.Need-returns invariant-loop decreases-loop
-returns c = search (twice, not_true, not-false) depth 12
+returns c = search (twice, not-true, not-false) depth 12
 
 loop-less : tie.Need-loop-smaller invariant-loop decreases-loop
 loop-less c = search rules
 
 loop-again : tie.Need-loop-preserved invariant-loop decreases-loop
-loop-again c = (search rules, search rules, search (next, not_true, not-false) depth 12)
+loop-again c = (search rules, search rules, search (next, not-true, not-false) depth 12)
 
 loop-less-2 : tie.Need-loop-smaller-2 invariant-loop decreases-loop
 loop-less-2 c = search rules
 
 loop-again-2 : tie.Need-loop-preserved-2 invariant-loop decreases-loop
-loop-again-2 c = (search rules, search rules, search (skipped, not_true, not-false) depth 9)
+loop-again-2 c = (search rules, search rules, search (skipped, not-true, not-false) depth 9)
 
 returns-2 : tie.Need-returns-2 invariant-loop decreases-loop
 returns-2 c = search past

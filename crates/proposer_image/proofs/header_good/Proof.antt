@@ -5,7 +5,7 @@ use mathlib.Core.Bool.{Bool, true, false, ◌&&◌}
 use mathlib.Core.Bool as Booleans
 use mathlib.Core.List.{List}
 use Prim.Native.Nat.{ℕ, ◌+◌, ◌-◌, ◌*◌, ◌≤◌, ◌<◌}
-use borrow.Author.Tests.{ne_eqb, le-leb, lt-leb, not_true, not-false}
+use borrow.Author.Tests.{ne_eqb, le-leb, lt-leb, not-true, not-false}
 use lib.Dec.{eqb, leb}
 use Rattle.leaf_fields.specs.Fields.{span, byte, all_zero}
 use Rattle.messages.specs.Limits.{none_zero}
@@ -97,7 +97,7 @@ zeros-requires : tie.Need-zeros-requires
 zeros-requires c κs = search rules
 
 returns-5 : tie.Need-returns-5
-returns-5 c = search (accept_rest, not_true, not-false) depth 12
+returns-5 c = search (accept_rest, not-true, not-false) depth 12
 
 sub-zeros-2 : tie.Need-overflow-sub-zeros-2
 sub-zeros-2 c = search rules
@@ -112,19 +112,19 @@ zeros-requires-2 : tie.Need-zeros-requires-2
 zeros-requires-2 c κs = search rules
 
 returns-6 : tie.Need-returns-6
-returns-6 c = search (propose_rest, not_true, not-false) depth 14
+returns-6 c = search (propose_rest, not-true, not-false) depth 14
 
 none-zero-requires : tie.Need-none-zero-requires
 none-zero-requires c κs = search rules
 
 returns-7 : tie.Need-returns-7
-returns-7 c = search (accept_zero, not_true, not-false) depth 16
+returns-7 c = search (accept_zero, not-true, not-false) depth 16
 
 none-zero-requires-2 : tie.Need-none-zero-requires-2
 none-zero-requires-2 c κs = search rules
 
 returns-8 : tie.Need-returns-8
-returns-8 c = search (propose_zero, not_true, not-false) depth 16
+returns-8 c = search (propose_zero, not-true, not-false) depth 16
 
 pub header-good-spec : {M : Type 1} → statement M
 header-good-spec =

@@ -5,7 +5,7 @@ use mathlib.Core.Bool.{Bool, true, false, not, ◌&&◌}
 use mathlib.Core.Bool as Booleans
 use mathlib.Core.List.{List}
 use Prim.Native.Nat.{ℕ, ◌-◌, ◌≤◌}
-use borrow.Author.Tests.{not_true, not-false}
+use borrow.Author.Tests.{not-true, not-false}
 use lib.ListN.{length}
 use Rattle.proposer_place.specs.Area.{read_places, ballots_of, sized, distinct, long_at, is_image}
 use Rattle.proposer_area.specs.declared.Header.{Header}
@@ -24,7 +24,7 @@ header_room a n h = omega (arith, sized_of a n h)
 
 module _ (a : List ℕ) (n : ℕ) (bytes : Bytes a) (size : sized a n ≡ true) (r : Bool) (er : r ≡ header_good a) where
   other_header : not r ≡ true → false ≡ is_image a n
-  other_header tr = rw (image_parts a n bytes size, ← er, not_true r tr)
+  other_header tr = rw (image_parts a n bytes size, ← er, not-true r tr)
 
   module _ (tr : not r ≡ false) (h : Header) (eh : h ≡ header_in a) (s : Bool) (es : s ≡ places_good h.counter a 80 n) where
     by_places : is_image a n ≡ (s && distinct (ballots_of (read_places a 80 n)))
@@ -33,7 +33,7 @@ module _ (a : List ℕ) (n : ℕ) (bytes : Bytes a) (size : sized a n ≡ true) 
         rw (image_parts a n bytes size, ← er, not-false r tr, ← counter, ← es)
 
     other_places : not s ≡ true → false ≡ is_image a n
-    other_places ts = rw (by_places, not_true s ts)
+    other_places ts = rw (by_places, not-true s ts)
 
     by_ballots : (u : Bool) → not s ≡ false → u ≡ distinct (ballots_of (read_places a 80 n)) → u ≡ is_image a n
     by_ballots u ts eu = rw (by_places, not-false s ts) eu

@@ -5,7 +5,7 @@ use mathlib.Core.Bool.{Bool, true, false, ◌&&◌}
 use mathlib.Core.Bool as Booleans
 use mathlib.Core.List.{List}
 use Prim.Native.Nat.{ℕ, suc, ◌+◌, ◌-◌, ◌*◌, ◌≤◌, ◌<◌}
-use borrow.Author.Tests.{not_true, not-false}
+use borrow.Author.Tests.{not-true, not-false}
 use Rattle.proposer_place.specs.Area.{header_bytes}
 use Rattle.proposer_area.specs.Places.{place_at}
 use Rattle.proposer_image.specs.Good.{place_good, places_good}
@@ -68,7 +68,7 @@ place-good-requires : tie.Need-place-good-requires invariant-loop decreases-loop
 place-good-requires c κs = search lent_length
 
 returns : tie.Need-returns invariant-loop decreases-loop
-returns c = search (bad, not_true, not-false) depth 9
+returns c = search (bad, not-true, not-false) depth 9
 
 add-i : tie.Need-overflow-add-i invariant-loop decreases-loop
 add-i c = search rules
@@ -77,7 +77,7 @@ loop-less : tie.Need-loop-smaller invariant-loop decreases-loop
 loop-less c = search rules
 
 loop-again : tie.Need-loop-preserved invariant-loop decreases-loop
-loop-again c = (search rules, search rules, search (next, not_true, not-false) depth 9)
+loop-again c = (search rules, search rules, search (next, not-true, not-false) depth 9)
 
 returns-2 : tie.Need-returns-2 invariant-loop decreases-loop
 returns-2 c = search past

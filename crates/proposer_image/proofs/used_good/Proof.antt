@@ -6,7 +6,7 @@ use mathlib.Core.Bool as Booleans
 use mathlib.Core.List.{List}
 use mathlib.Core.Option.{some}
 use Prim.Native.Nat.{ℕ, ◌+◌, ◌-◌, ◌≤◌, ◌<◌}
-use borrow.Author.Tests.{le-leb, lt-leb, not_true, not-false}
+use borrow.Author.Tests.{le-leb, lt-leb, not-true, not-false}
 use lib.Dec.{leb}
 use lib.ListN.{length}
 use Rattle.proposer_place.specs.declared.front.Front.{Front}
@@ -69,31 +69,31 @@ sizes-fit-requires : tie.Need-sizes-fit-requires
 sizes-fit-requires c κs = search taken_from
 
 returns : tie.Need-returns
-returns c = search (no_size, not_true, not-false) depth 9
+returns c = search (no_size, not-true, not-false) depth 9
 
 same-again-requires : tie.Need-same-again-requires
 same-again-requires c κs = (search taken_from, search (sizes_by, not-false))
 
 returns-2 : tie.Need-returns-2
-returns-2 c = search (other_bytes, not_true, not-false) depth 12
+returns-2 c = search (other_bytes, not-true, not-false) depth 12
 
 answers-fit-requires : tie.Need-answers-fit-requires
 answers-fit-requires c κs = (search taken_from, search (sizes_by, not-false))
 
 returns-3 : tie.Need-returns-3
-returns-3 c = search (no_answers, not_true, not-false) depth 14
+returns-3 c = search (no_answers, not-true, not-false) depth 14
 
 promise-fits-requires : tie.Need-promise-fits-requires
 promise-fits-requires c κs = search taken_from
 
 returns-4 : tie.Need-returns-4
-returns-4 c = search (no_promise, not_true, not-false) depth 16
+returns-4 c = search (no_promise, not-true, not-false) depth 16
 
 returns-5 : tie.Need-returns-5
-returns-5 c = search (low_ballot, not_true, not-false) depth 18
+returns-5 c = search (low_ballot, not-true, not-false) depth 18
 
 returns-6 : tie.Need-returns-6
-returns-6 c = search (within_counter, not_true, not-false) depth 18
+returns-6 c = search (within_counter, not-true, not-false) depth 18
 
 pub used-good-spec : {M : Type 1} → statement M
 used-good-spec =

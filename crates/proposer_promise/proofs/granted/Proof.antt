@@ -4,7 +4,7 @@ use mathlib.Core.Path.{◌≡◌, refl}
 use mathlib.Core.Bool.{true}
 use mathlib.Core.List.{List}
 use Prim.Native.Nat.{ℕ, ◌<◌, ◌^◌}
-use borrow.Author.Tests.{leb-true, not_true, not-false}
+use borrow.Author.Tests.{leb-true, not-true, not-false}
 use lib.ListN.{length}
 use mir.Syntax.{w8}
 use mir.Val.{Fits}
@@ -60,7 +60,7 @@ returns : tie.Need-returns
 returns c =
     let start = c.before.before.before.before.before.before.before.before in
     let place = c.before.before.before.take-place in
-    promise_refused start.args.area.now start.args.answer.now start.args.places start.args.i place.result start.args.from start.args.accepted (given start.args.mark start.args.value.now) start.requires.0 start.requires.2 place.ensures.0 _ _ refl c.before.above.ensures (not_true _ c.if1.true)
+    promise_refused start.args.area.now start.args.answer.now start.args.places start.args.i place.result start.args.from start.args.accepted (given start.args.mark start.args.value.now) start.requires.0 start.requires.2 place.ensures.0 _ _ refl c.before.above.ensures (not-true _ c.if1.true)
 
 note-promise-requires : tie.Need-note-promise-requires
 note-promise-requires c κs = (search held_room, search held_used, search rules, search rules, search rules)

@@ -5,7 +5,7 @@ use mathlib.Core.Bool.{true}
 use mathlib.Core.List.{List}
 use mathlib.Core.Option.{Option}
 use Prim.Native.Nat.{ℕ}
-use borrow.Author.Tests.{not_true, not-false}
+use borrow.Author.Tests.{not-true, not-false}
 use Rattle.messages.specs.declared.Address.{Address}
 use Rattle.messages.specs.declared.Ballot.{Ballot}
 use Rattle.messages.specs.declared.Error.{Error}
@@ -119,7 +119,7 @@ returns-4 : tie.Need-returns-4
 returns-4 c =
     let args = c.before.before.before.before.before.before.before.before.before.before.before.before.before.before.before.before.args in
     let found = found_at c.before.before.before.before.before.before.before.before in
-    λ v. promise_unasked args.area.now args.answer.now args.places _ args.ballot _ args.from args.accepted (given args.mark args.value.now) found.held found.place found.within found.front c.before.before.before.before.before.before.enum-told2.given.1 _ c.before.before.before.before.has-answered.ensures c.before.before.before.if2.false (result_of args.res v) _ c.before.is-waited-for.ensures (not_true _ c.if3.true)
+    λ v. promise_unasked args.area.now args.answer.now args.places _ args.ballot _ args.from args.accepted (given args.mark args.value.now) found.held found.place found.within found.front c.before.before.before.before.before.before.enum-told2.given.1 _ c.before.before.before.before.has-answered.ensures c.before.before.before.if2.false (result_of args.res v) _ c.before.is-waited-for.ensures (not-true _ c.if3.true)
 
 enum-told-3 : tie.Need-enum-told-3
 enum-told-3 c = search rules

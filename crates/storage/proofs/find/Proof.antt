@@ -4,7 +4,7 @@ use mathlib.Core.Path.{◌≡◌, refl, sym, ◌∙◌}
 use mathlib.Core.Bool.{Bool, true, false, not, cond}
 use mathlib.Core.List.{List, [], ◌∷◌}
 use Prim.Native.Nat.{ℕ}
-use borrow.Author.Tests.{not_true, not-false}
+use borrow.Author.Tests.{not-true, not-false}
 use Rattle.messages.specs.declared.answer.Refusal.{Refusal}
 use Rattle.messages.specs.Limits.{key_fits}
 use Rattle.messages.specs.Refusals.{test, first_due}
@@ -44,13 +44,13 @@ is-sized-requires : tie.Need-is-sized-requires
 is-sized-requires c κs = search rules
 
 returns : tie.Need-returns
-returns c = search (wrong_size, not_true)
+returns c = search (wrong_size, not-true)
 
 is-sound-requires : tie.Need-is-sound-requires
 is-sound-requires c κs = sized_by _ _ _ c.before.is-sized.ensures (not-false _ c.if1.false)
 
 returns-2 : tie.Need-returns-2
-returns-2 c = search (damaged, not_true, not-false) depth 8
+returns-2 c = search (damaged, not-true, not-false) depth 8
 
 locate-requires : tie.Need-locate-requires
 locate-requires c κs = lent_by _ _ _ _ c.before.before.before.is-sized.ensures (not-false _ c.before.before.if1.false) c.before.is-sound.ensures (not-false _ c.if2.false)

@@ -4,7 +4,7 @@ use mathlib.Core.Path.{◌≡◌, sym, ◌∙◌}
 use mathlib.Core.Bool.{Bool, true, false}
 use mathlib.Core.List.{List}
 use Prim.Native.Nat.{ℕ, ◌+◌, ◌*◌, ◌≤◌, ◌<◌}
-use borrow.Author.Tests.{not_true, not-false}
+use borrow.Author.Tests.{not-true, not-false}
 use lib.ListN.{length}
 use Rattle.messages.specs.declared.answer.Refusal.{Refusal}
 use Rattle.storage_block.specs.Block.{fresh, readable, register_with}
@@ -66,7 +66,7 @@ same-length : tie.Need-same-length
 same-length c = search rules
 
 returns : tie.Need-returns
-returns c = search (wrong_size, not_true) depth 8
+returns c = search (wrong_size, not-true) depth 8
 
 is-sound-requires : tie.Need-is-sound-requires
 is-sound-requires c κs = sized_by _ _ _ c.before.before.is-sized.ensures (not-false _ c.before.if1.false)
@@ -75,7 +75,7 @@ same-length-2 : tie.Need-same-length-2
 same-length-2 c = search rules
 
 returns-2 : tie.Need-returns-2
-returns-2 c = search (damaged, not_true, not-false) depth 9
+returns-2 c = search (damaged, not-true, not-false) depth 9
 
 locate-requires : tie.Need-locate-requires
 locate-requires c κs = searchable c

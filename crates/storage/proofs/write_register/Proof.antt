@@ -5,7 +5,7 @@ use mathlib.Core.Bool.{Bool, true, false}
 use mathlib.Core.List.{List}
 use mathlib.Core.Option.{Option}
 use Prim.Native.Nat.{ℕ, ◌≤◌}
-use borrow.Author.Tests.{not_true, not-false}
+use borrow.Author.Tests.{not-true, not-false}
 use lib.ListN.{length}
 use Rattle.messages.specs.declared.Ballot.{Ballot}
 use Rattle.messages.specs.declared.answer.Refusal.{Refusal}
@@ -47,7 +47,7 @@ register-fits-requires : tie.Need-register-fits-requires
 register-fits-requires c κs = search rules
 
 returns-2 : tie.Need-returns-2
-returns-2 c = search (over_limit, not_true) depth 9
+returns-2 c = search (over_limit, not-true) depth 9
 
 write-requires : tie.Need-write-requires
 write-requires c κs = (search rules, search (key_by, not-false), search (value_by, not-false))

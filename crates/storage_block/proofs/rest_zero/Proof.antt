@@ -4,7 +4,7 @@ use mathlib.Core.Path.{◌≡◌}
 use mathlib.Core.Bool.{Bool, true, false}
 use mathlib.Core.List.{List}
 use Prim.Native.Nat.{ℕ, ◌+◌, ◌≤◌}
-use borrow.Author.Tests.{ne_eqb, not_true, not-false}
+use borrow.Author.Tests.{ne_eqb, not-true, not-false}
 use Rattle.leaf_fields.specs.Fields.{from_le, part, span, byte, all_zero}
 use Rattle.storage_block.specs.Block.{head_good, rest_zero}
 use Rattle.storage_block.specs.Read.{head_of_lem}
@@ -55,7 +55,7 @@ zeros-requires : tie.Need-zeros-requires
 zeros-requires c κs = search rules
 
 returns-2 : tie.Need-returns-2
-returns-2 c = search (sixth, not_true, not-false) depth 8
+returns-2 c = search (sixth, not-true, not-false) depth 8
 
 shared-slice-read-key-end : tie.Need-shared-slice-read-key-end
 shared-slice-read-key-end c = search rules
@@ -79,7 +79,7 @@ zeros-requires-2 : tie.Need-zeros-requires-2
 zeros-requires-2 c κs = search rules
 
 returns-3 : tie.Need-returns-3
-returns-3 c = search (key_tail, not_true, not-false) depth 8
+returns-3 c = search (key_tail, not-true, not-false) depth 8
 
 get16-requires : tie.Need-get16-requires
 get16-requires c κs = search rules
@@ -103,7 +103,7 @@ zeros-requires-3 : tie.Need-zeros-requires-3
 zeros-requires-3 c κs = search rules
 
 returns-4 : tie.Need-returns-4
-returns-4 c = search (value_tail, not_true, not-false) depth 8
+returns-4 c = search (value_tail, not-true, not-false) depth 8
 
 pub rest-zero-spec : {M : Type 1} → statement M
 rest-zero-spec =

@@ -4,7 +4,7 @@ use mathlib.Core.Path.{◌≡◌, sym, ◌∙◌}
 use mathlib.Core.Bool.{Bool, true, false}
 use mathlib.Core.List.{List}
 use Prim.Native.Nat.{ℕ}
-use borrow.Author.Tests.{not_true, not-false}
+use borrow.Author.Tests.{not-true, not-false}
 use Rattle.leaf_fields.specs.Fields.{all_zero}
 use Rattle.storage_block.specs.declared.BlockState.{BlockState}
 use Rattle.storage_block.specs.Block.{head_good, rest_zero, sums_good, good, state_of}
@@ -46,22 +46,22 @@ head-good-requires : tie.Need-head-good-requires
 head-good-requires c κs = search rules
 
 returns-2 : tie.Need-returns-2
-returns-2 c = search (bad_head, not_true, not-false) depth 9
+returns-2 c = search (bad_head, not-true, not-false) depth 9
 
 rest-zero-requires : tie.Need-rest-zero-requires
 rest-zero-requires c κs = (search rules, search (head_by, not-false))
 
 returns-3 : tie.Need-returns-3
-returns-3 c = search (bad_rest, not_true, not-false) depth 9
+returns-3 c = search (bad_rest, not-true, not-false) depth 9
 
 sums-good-requires : tie.Need-sums-good-requires
 sums-good-requires c κs = search rules
 
 returns-4 : tie.Need-returns-4
-returns-4 c = search (is_good, not_true, not-false) depth 9
+returns-4 c = search (is_good, not-true, not-false) depth 9
 
 returns-5 : tie.Need-returns-5
-returns-5 c = search (bad_sums, not_true, not-false) depth 9
+returns-5 c = search (bad_sums, not-true, not-false) depth 9
 
 pub state-spec : {M : Type 1} → statement M
 state-spec =

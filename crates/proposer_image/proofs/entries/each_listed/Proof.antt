@@ -5,7 +5,7 @@ use mathlib.Core.Bool.{Bool, true, false, ◌&&◌}
 use mathlib.Core.List.{List}
 use Prim.Native.Nat.{ℕ, ◌+◌, ◌-◌, ◌*◌, ◌≤◌, ◌<◌}
 use native.Mathlib.Nat.{add-zero, sub-zero}
-use borrow.Author.Tests.{not_true, not-false}
+use borrow.Author.Tests.{not-true, not-false}
 use Rattle.leaf_fields.specs.Fields.{from_le, part}
 use Rattle.messages.specs.Answers.{entries}
 use Rattle.proposer_rules.specs.State.{listed}
@@ -56,7 +56,7 @@ is-wanted-requires : tie.Need-is-wanted-requires invariant-loop decreases-loop
 is-wanted-requires c κs = search rules
 
 returns : tie.Need-returns invariant-loop decreases-loop
-returns c = search (refuted, not_true, not-false) depth 10
+returns c = search (refuted, not-true, not-false) depth 10
 
 add-i : tie.Need-overflow-add-i invariant-loop decreases-loop
 add-i c = search rules
@@ -65,7 +65,7 @@ loop-less : tie.Need-loop-smaller invariant-loop decreases-loop
 loop-less c = search rules
 
 loop-again : tie.Need-loop-preserved invariant-loop decreases-loop
-loop-again c = (search rules, search (next, not_true, not-false) depth 10)
+loop-again c = (search rules, search (next, not-true, not-false) depth 10)
 
 returns-2 : tie.Need-returns-2 invariant-loop decreases-loop
 returns-2 c = search past

@@ -4,7 +4,7 @@ use mathlib.Core.Path.{◌≡◌}
 use mathlib.Core.Bool.{Bool}
 use mathlib.Core.List.{List}
 use Prim.Native.Nat.{ℕ}
-use borrow.Author.Tests.{not_true, not-false}
+use borrow.Author.Tests.{not-true, not-false}
 use Rattle.script_words.specs.declared.number.Number.{Number}
 use Rattle.script.specs.declared.step.Step.{Step}
 use Rattle.script_words.specs.Text.{number_of, list_word}
@@ -63,7 +63,7 @@ is-list-requires : tie.Need-is-list-requires
 is-list-requires c κs = search rules
 
 returns-4 : tie.Need-returns-4
-returns-4 c = search (as_many, all, not_true) depth 16
+returns-4 c = search (as_many, all, not-true) depth 16
 
 returns-5 : tie.Need-returns-5
 returns-5 c = search (as_many, all, not-false) depth 16

@@ -1,6 +1,6 @@
 -- `script_message::message::read_list_message` meets its contract: the tests of the words' number and of the list.
 -- Assumes nothing.
-use borrow.Author.Tests.{not_true, not-false}
+use borrow.Author.Tests.{not-true, not-false}
 use Rattle.script_words.specs.Tests.{as_many, not_as_many, is_list, no_list}
 use Rattle.script_message.specs.Messages.{list_in}
 use borrow.Author.Rules.{rules}
@@ -9,7 +9,7 @@ use Rattle.script_message.proofs.message.read_list_message.Tie as tie
 
 returns : tie.Need-returns
 unfolding list_in
-returns c = search (as_many, not_as_many, is_list, no_list, not_true, not-false) depth 12
+returns c = search (as_many, not_as_many, is_list, no_list, not-true, not-false) depth 12
 
 word-requires : tie.Need-word-requires
 word-requires c κs = search rules
@@ -19,11 +19,11 @@ is-list-requires c κs = search rules
 
 returns-2 : tie.Need-returns-2
 unfolding list_in
-returns-2 c = search (as_many, not_as_many, is_list, no_list, not_true, not-false) depth 12
+returns-2 c = search (as_many, not_as_many, is_list, no_list, not-true, not-false) depth 12
 
 returns-3 : tie.Need-returns-3
 unfolding list_in
-returns-3 c = search (as_many, not_as_many, is_list, no_list, not_true, not-false) depth 12
+returns-3 c = search (as_many, not_as_many, is_list, no_list, not-true, not-false) depth 12
 
 pub read-list-message-spec : {M : Type 1} → statement M
 read-list-message-spec =

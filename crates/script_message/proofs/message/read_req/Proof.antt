@@ -1,6 +1,6 @@
 -- `script_message::message::read_req` meets its contract: the tests of the key, the name and the words' number, in their order.
 -- Assumes nothing.
-use borrow.Author.Tests.{not_true, not-false}
+use borrow.Author.Tests.{not-true, not-false}
 use Rattle.script_words.specs.Tests.{named, not_named, as_many, not_as_many, is_bytes, no_bytes}
 use Rattle.script_message.specs.Messages.{asked_in}
 use borrow.Author.Rules.{rules}
@@ -18,7 +18,7 @@ is-bytes-requires c κs = search rules
 
 returns : tie.Need-returns
 unfolding asked_in
-returns c = search (named, not_named, as_many, not_as_many, is_bytes, no_bytes, not_true, not-false) depth 20
+returns c = search (named, not_named, as_many, not_as_many, is_bytes, no_bytes, not-true, not-false) depth 20
 
 slice-aggregate-same : tie.Need-slice-aggregate-same
 slice-aggregate-same c = search rules
@@ -31,7 +31,7 @@ read-cas-requires c κs = search rules
 
 returns-2 : tie.Need-returns-2
 unfolding asked_in
-returns-2 c = search (named, not_named, as_many, not_as_many, is_bytes, no_bytes, not_true, not-false) depth 20
+returns-2 c = search (named, not_named, as_many, not_as_many, is_bytes, no_bytes, not-true, not-false) depth 20
 
 slice-aggregate-same-2 : tie.Need-slice-aggregate-same-2
 slice-aggregate-same-2 c = search rules
@@ -41,7 +41,7 @@ same-requires-2 c κs = search rules
 
 returns-3 : tie.Need-returns-3
 unfolding asked_in
-returns-3 c = search (named, not_named, as_many, not_as_many, is_bytes, no_bytes, not_true, not-false) depth 20
+returns-3 c = search (named, not_named, as_many, not_as_many, is_bytes, no_bytes, not-true, not-false) depth 20
 
 word-requires-3 : tie.Need-word-requires-3
 word-requires-3 c κs = search rules
@@ -51,15 +51,15 @@ is-bytes-requires-2 c κs = search rules
 
 returns-4 : tie.Need-returns-4
 unfolding asked_in
-returns-4 c = search (named, not_named, as_many, not_as_many, is_bytes, no_bytes, not_true, not-false) depth 20
+returns-4 c = search (named, not_named, as_many, not_as_many, is_bytes, no_bytes, not-true, not-false) depth 20
 
 returns-5 : tie.Need-returns-5
 unfolding asked_in
-returns-5 c = search (named, not_named, as_many, not_as_many, is_bytes, no_bytes, not_true, not-false) depth 20
+returns-5 c = search (named, not_named, as_many, not_as_many, is_bytes, no_bytes, not-true, not-false) depth 20
 
 returns-6 : tie.Need-returns-6
 unfolding asked_in
-returns-6 c = search (named, not_named, as_many, not_as_many, is_bytes, no_bytes, not_true, not-false) depth 20
+returns-6 c = search (named, not_named, as_many, not_as_many, is_bytes, no_bytes, not-true, not-false) depth 20
 
 slice-aggregate-same-3 : tie.Need-slice-aggregate-same-3
 slice-aggregate-same-3 c = search rules
@@ -69,7 +69,7 @@ same-requires-3 c κs = search rules
 
 returns-7 : tie.Need-returns-7
 unfolding asked_in
-returns-7 c = search (named, not_named, as_many, not_as_many, is_bytes, no_bytes, not_true, not-false) depth 20
+returns-7 c = search (named, not_named, as_many, not_as_many, is_bytes, no_bytes, not-true, not-false) depth 20
 
 slice-aggregate-same-4 : tie.Need-slice-aggregate-same-4
 slice-aggregate-same-4 c = search rules
@@ -79,11 +79,11 @@ same-requires-4 c κs = search rules
 
 returns-8 : tie.Need-returns-8
 unfolding asked_in
-returns-8 c = search (named, not_named, as_many, not_as_many, is_bytes, no_bytes, not_true, not-false) depth 20
+returns-8 c = search (named, not_named, as_many, not_as_many, is_bytes, no_bytes, not-true, not-false) depth 20
 
 returns-9 : tie.Need-returns-9
 unfolding asked_in
-returns-9 c = search (named, not_named, as_many, not_as_many, is_bytes, no_bytes, not_true, not-false) depth 20
+returns-9 c = search (named, not_named, as_many, not_as_many, is_bytes, no_bytes, not-true, not-false) depth 20
 
 pub read-req-spec : {M : Type 1} → statement M
 read-req-spec =

@@ -1,6 +1,6 @@
 -- `script_message::message::read_res` meets its contract: the tests of the name and of the words' number, in their order.
 -- Assumes nothing.
-use borrow.Author.Tests.{not_true, not-false}
+use borrow.Author.Tests.{not-true, not-false}
 use Rattle.script_words.specs.Tests.{named, not_named, as_many, not_as_many, matched}
 use Rattle.script_message.specs.Messages.{result_by, result_in}
 use borrow.Author.Rules.{rules}
@@ -21,11 +21,11 @@ add-if2 c = search rules
 
 returns : tie.Need-returns
 unfolding result_in
-returns c = search (named, not_named, as_many, not_as_many, matched result_by, not_true, not-false) depth 16
+returns c = search (named, not_named, as_many, not_as_many, matched result_by, not-true, not-false) depth 16
 
 returns-2 : tie.Need-returns-2
 unfolding result_in
-returns-2 c = search (named, not_named, as_many, not_as_many, matched result_by, not_true, not-false) depth 16
+returns-2 c = search (named, not_named, as_many, not_as_many, matched result_by, not-true, not-false) depth 16
 
 slice-aggregate-same-2 : tie.Need-slice-aggregate-same-2
 slice-aggregate-same-2 c = search rules
@@ -35,7 +35,7 @@ same-requires-2 c κs = search rules
 
 returns-3 : tie.Need-returns-3
 unfolding result_in
-returns-3 c = search (named, not_named, as_many, not_as_many, matched result_by, not_true, not-false) depth 16
+returns-3 c = search (named, not_named, as_many, not_as_many, matched result_by, not-true, not-false) depth 16
 
 add-read-error : tie.Need-overflow-add-read-error
 add-read-error c = search rules
@@ -51,11 +51,11 @@ enum_told c = search rules
 
 returns-4 : tie.Need-returns-4
 unfolding result_in
-returns-4 c = search (named, not_named, as_many, not_as_many, matched result_by, not_true, not-false) depth 16
+returns-4 c = search (named, not_named, as_many, not_as_many, matched result_by, not-true, not-false) depth 16
 
 returns-5 : tie.Need-returns-5
 unfolding result_in
-returns-5 c = search (named, not_named, as_many, not_as_many, matched result_by, not_true, not-false) depth 16
+returns-5 c = search (named, not_named, as_many, not_as_many, matched result_by, not-true, not-false) depth 16
 
 pub read-res-spec : {M : Type 1} → statement M
 read-res-spec =

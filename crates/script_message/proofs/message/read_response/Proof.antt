@@ -1,6 +1,6 @@
 -- `script_message::message::read_response` meets its contract: the tests of the name and of the words' number, in their order.
 -- Assumes nothing.
-use borrow.Author.Tests.{not_true, not-false}
+use borrow.Author.Tests.{not-true, not-false}
 use Rattle.script_words.specs.Tests.{named, not_named, as_many, not_as_many, matched}
 use Rattle.script_message.specs.Messages.{done_by, replied_by, replied_in}
 use Rattle.script_message.proofs.Laws.{given_at}
@@ -19,7 +19,7 @@ same-requires c κs = search rules
 
 returns : tie.Need-returns
 unfolding replied_in
-returns c = search (named, not_named, as_many, not_as_many, matched done_by, matched replied_by, given_at, not_true, not-false) depth 16
+returns c = search (named, not_named, as_many, not_as_many, matched done_by, matched replied_by, given_at, not-true, not-false) depth 16
 
 word-requires-2 : tie.Need-word-requires-2
 word-requires-2 c κs = search rules
@@ -35,11 +35,11 @@ enum_told c = search rules
 
 returns-2 : tie.Need-returns-2
 unfolding replied_in
-returns-2 c = search (named, not_named, as_many, not_as_many, matched done_by, matched replied_by, given_at, not_true, not-false) depth 16
+returns-2 c = search (named, not_named, as_many, not_as_many, matched done_by, matched replied_by, given_at, not-true, not-false) depth 16
 
 returns-3 : tie.Need-returns-3
 unfolding replied_in
-returns-3 c = search (named, not_named, as_many, not_as_many, matched done_by, matched replied_by, given_at, not_true, not-false) depth 16
+returns-3 c = search (named, not_named, as_many, not_as_many, matched done_by, matched replied_by, given_at, not-true, not-false) depth 16
 
 slice-aggregate-same-2 : tie.Need-slice-aggregate-same-2
 slice-aggregate-same-2 c = search rules
@@ -49,7 +49,7 @@ same-requires-2 c κs = search rules
 
 returns-4 : tie.Need-returns-4
 unfolding replied_in
-returns-4 c = search (named, not_named, as_many, not_as_many, matched done_by, matched replied_by, given_at, not_true, not-false) depth 16
+returns-4 c = search (named, not_named, as_many, not_as_many, matched done_by, matched replied_by, given_at, not-true, not-false) depth 16
 
 read-error-requires : tie.Need-read-error-requires
 read-error-requires c κs = search rules
@@ -62,11 +62,11 @@ enum-told-2 c = search rules
 
 returns-5 : tie.Need-returns-5
 unfolding replied_in
-returns-5 c = search (named, not_named, as_many, not_as_many, matched done_by, matched replied_by, given_at, not_true, not-false) depth 16
+returns-5 c = search (named, not_named, as_many, not_as_many, matched done_by, matched replied_by, given_at, not-true, not-false) depth 16
 
 returns-6 : tie.Need-returns-6
 unfolding replied_in
-returns-6 c = search (named, not_named, as_many, not_as_many, matched done_by, matched replied_by, given_at, not_true, not-false) depth 16
+returns-6 c = search (named, not_named, as_many, not_as_many, matched done_by, matched replied_by, given_at, not-true, not-false) depth 16
 
 pub read-response-spec : {M : Type 1} → statement M
 read-response-spec =

@@ -7,7 +7,7 @@ use Prim.Native.Nat.{ℕ, ◌+◌, ◌-◌, ◌≤◌, ◌<◌}
 use native.Mathlib.Numerals.{add-one}
 use lib.ListN.{length, get_or, drop, drop_of_length-le}
 use lib.Seq.{drop-cons}
-use borrow.Author.Tests.{not_true, not-false}
+use borrow.Author.Tests.{not-true, not-false}
 use Rattle.script_words.specs.Text.{is_hex, all_hex}
 use borrow.Author.Rules.{rules}
 use Rattle.script_words.proofs.bytes.all_hex.Statement.{statement}
@@ -41,7 +41,7 @@ is-hex-requires : tie.Need-is-hex-requires invariant-loop decreases-loop
 is-hex-requires c κs = search rules
 
 returns : tie.Need-returns invariant-loop decreases-loop
-returns c = search (hit, not_true) depth 8
+returns c = search (hit, not-true) depth 8
 
 add-i : tie.Need-overflow-add-i invariant-loop decreases-loop
 add-i c = search rules

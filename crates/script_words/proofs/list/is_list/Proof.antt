@@ -6,7 +6,7 @@ use mathlib.Core.List.{List, [], ◌∷◌}
 use Prim.Native.Nat.{ℕ, suc, ◌+◌, ◌-◌, ◌≤◌, ◌<◌}
 use lib.ListN.{length, take, drop, length-drop}
 use lib.Seq.{drop-drop}
-use borrow.Author.Tests.{not_true, not-false, le-leb, lt-leb}
+use borrow.Author.Tests.{not-true, not-false, le-leb, lt-leb}
 use Rattle.leaf_fields.specs.Fields.{same}
 use Rattle.script_words.specs.Text.{up_to, address_of, is_good, list_from, list_word}
 use borrow.Author.Rules.{rules}
@@ -89,7 +89,7 @@ is-entry-requires : tie.Need-is-entry-requires invariant-loop decreases-loop
 is-entry-requires c κs = search rules
 
 returns-2 : tie.Need-returns-2 invariant-loop decreases-loop
-returns-2 c = search (bad, not_true) depth 9
+returns-2 c = search (bad, not-true) depth 9
 
 returns-3 : tie.Need-returns-3 invariant-loop decreases-loop
 returns-3 c = search (last, not-false) depth 9

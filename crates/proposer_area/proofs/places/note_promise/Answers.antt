@@ -7,8 +7,8 @@ use Prim.Native.Nat.{ℕ, ◌+◌, ◌-◌, ◌*◌, ◌≤◌, ◌<◌}
 use borrow.Rule.Slice.PartMut.{put_mid}
 use lib.ListN.{length, take, drop}
 use lib.Seq.{sets}
-use mathlib.Core.Bool.{Bool, true, false, cond}
-use borrow.Author.Tests.{leb-true, not_true, not-false}
+use mathlib.Core.Bool.{Bool, true, false}
+use borrow.Author.Tests.{leb-true, not-true, not-false}
 use Rattle.messages.specs.declared.Address.{Address}
 use Rattle.messages.specs.declared.Ballot.{Ballot}
 use Rattle.messages.specs.declared.OptionValue.{OptionValue}
@@ -16,17 +16,15 @@ use Rattle.messages.specs.Ballots.{above}
 use Rattle.messages.specs.Message.{given}
 use Rattle.messages.specs.Limits.{option_fits}
 use Rattle.messages.specs.Answers.{bytes_of}
-use Rattle.proposer_rules.specs.State.{Pending, with_yes}
+use Rattle.proposer_rules.specs.State.{with_yes}
 use Rattle.proposer_rules.specs.Rules.{promised_by}
 use Rattle.proposer_place.specs.declared.front.Front.{Front}
 use Rattle.proposer_place.specs.Area.{place_bytes, place_image, read_pending}
 use Rattle.proposer_place.specs.Front.{front_of, Used}
 use Rattle.proposer_area.specs.Places.{place_at, place_in}
 use Rattle.proposer_area.specs.PlaceLent.{lent_has, place_worked}
-use borrow.Author.Rules.{rules}
 use native.Mathlib.Omega.{arith}
-use Rattle.proposer_area.proofs.places.note_promise.Statement.{statement}
-use Rattle.proposer_area.proofs.places.note_promise.Tie as tie
+use Rattle.proposer_area.proofs.places.note_promise.Goals as goal
 
 used : (a : List ℕ) (i : ℕ) → Used (place_in a i) → Used (take (80 + 976 * i + 976 - (80 + 976 * i)) (drop (80 + 976 * i) a))
 used = lent_has Used
@@ -53,75 +51,14 @@ taken_over a ys value i f from accepted mark r room e er h same noted =
     rw (by_front a i f accepted r e er, h)
     (place_worked (λ (b : List ℕ). place_image (some (with_yes (read_pending (b)) from accepted (given mark value)))) a ys i room same noted)
 
-mul_at : tie.Need-overflow-mul-at
-mul_at c = search rules
+pub note_yes-requires : goal.note_yes-requires
+note_yes-requires c = (search used, search room_left)
 
-add_at : tie.Need-overflow-add-at
-add_at c = search rules
+pub returns-then-not-above : goal.returns-then-not-above
+returns-then-not-above c = search (kept, not-true) depth 9
 
-above-requires : tie.Need-above-requires
-above-requires c κs = search rules
+pub note_promise-requires : goal.note_promise-requires
+note_promise-requires c = (search used, search room_left, search short_value)
 
-add-note-yes : tie.Need-overflow-add-note-yes
-add-note-yes c = search rules
-
-sub-note-yes : tie.Need-overflow-sub-note-yes
-sub-note-yes c = search rules
-
-part-note-yes-start : tie.Need-slice-bounds-note-yes-start
-part-note-yes-start c = search rules
-
-part-note-yes-end : tie.Need-slice-bounds-note-yes-end
-part-note-yes-end c = search rules
-
-note-yes-requires : tie.Need-note-yes-requires
-note-yes-requires c κs = (search used, search room_left)
-
-same-length : tie.Need-same-length
-same-length c = search rules
-
-returns : tie.Need-returns
-returns c = search (kept, not_true) depth 9
-
-add-note-promise : tie.Need-overflow-add-note-promise
-add-note-promise c = search rules
-
-sub-note-promise : tie.Need-overflow-sub-note-promise
-sub-note-promise c = search rules
-
-part-note-promise-start : tie.Need-slice-bounds-note-promise-start
-part-note-promise-start c = search rules
-
-part-note-promise-end : tie.Need-slice-bounds-note-promise-end
-part-note-promise-end c = search rules
-
-note-promise-requires : tie.Need-note-promise-requires
-note-promise-requires c κs = (search used, search room_left, search short_value)
-
-same-length-2 : tie.Need-same-length-2
-same-length-2 c = search rules
-
-returns-2 : tie.Need-returns-2
-returns-2 c = search (taken_over, not-false) depth 9
-
-pub note-promise-spec : {M : Type 1} → statement M
-note-promise-spec =
-    tie.close
-    (tie.spec
-    mul_at
-    add_at
-    above-requires
-    add-note-yes
-    sub-note-yes
-    part-note-yes-start
-    part-note-yes-end
-    note-yes-requires
-    same-length
-    returns
-    add-note-promise
-    sub-note-promise
-    part-note-promise-start
-    part-note-promise-end
-    note-promise-requires
-    same-length-2
-    returns-2)
+pub returns : goal.returns
+returns c = search (taken_over, not-false) depth 9

@@ -14,9 +14,7 @@ use Rattle.proposer_place.specs.Front.{front_of}
 use Rattle.proposer_place.specs.Rows.{entries-length}
 use Rattle.proposer_area.specs.Places.{place_in}
 use Rattle.proposer_area.specs.Turns.{lent_place_lem}
-use borrow.Author.Rules.{rules}
-use Rattle.proposer_area.proofs.places.has_answered.Statement.{statement}
-use Rattle.proposer_area.proofs.places.has_answered.Tie as tie
+use Rattle.proposer_area.proofs.places.has_answered.Goals as goal
 
 said_yes : (a : List ℕ) (i x : ℕ) (f : Front) (r : Bool) → f ≡ front_of (read_pending (place_in a i)) → r ≡ listed x (entries (take (80 + 976 * i + 976 - (80 + 976 * i)) (drop (80 + 976 * i) a)) 82 f.acks_from) → listed x (read_pending (place_in a i)).acks_from ≡ r
 unfolding front_of read_pending
@@ -36,63 +34,8 @@ by_yes a i x f r e er h = rw (said_yes a i x f r e er, h)
 by_no : (a : List ℕ) (i x : ℕ) (f : Front) (r s : Bool) → f ≡ front_of (read_pending (place_in a i)) → r ≡ listed x (entries (take (80 + 976 * i + 976 - (80 + 976 * i)) (drop (80 + 976 * i) a)) 82 f.acks_from) → r ≡ false → s ≡ listed x (entries (take (80 + 976 * i + 976 - (80 + 976 * i)) (drop (80 + 976 * i) a)) 112 f.nacks_from) → s ≡ (listed x (read_pending (place_in a i)).acks_from || listed x (read_pending (place_in a i)).nacks_from)
 by_no a i x f r s e er h es = rw (said_yes a i x f r e er, h) (said_no a i x f s e es)
 
-mul_at : tie.Need-overflow-mul-at
-mul_at c = search rules
+pub returns-then-listed : goal.returns-then-listed
+returns-then-listed c = search by_yes
 
-add_at : tie.Need-overflow-add-at
-add_at c = search rules
-
-add-listed : tie.Need-overflow-add-listed
-add-listed c = search rules
-
-sub-listed : tie.Need-overflow-sub-listed
-sub-listed c = search rules
-
-part-listed-start : tie.Need-slice-bounds-listed-start
-part-listed-start c = search rules
-
-part-listed-end : tie.Need-slice-bounds-listed-end
-part-listed-end c = search rules
-
-listed-requires : tie.Need-listed-requires
-listed-requires c κs = search rules
-
-returns : tie.Need-returns
-returns c = search by_yes
-
-add-listed-2 : tie.Need-overflow-add-listed-2
-add-listed-2 c = search rules
-
-sub-listed-2 : tie.Need-overflow-sub-listed-2
-sub-listed-2 c = search rules
-
-part-listed-start-2 : tie.Need-slice-bounds-listed-start-2
-part-listed-start-2 c = search rules
-
-part-listed-end-2 : tie.Need-slice-bounds-listed-end-2
-part-listed-end-2 c = search rules
-
-listed-requires-2 : tie.Need-listed-requires-2
-listed-requires-2 c κs = search rules
-
-returns-2 : tie.Need-returns-2
-returns-2 c = search by_no
-
-pub has-answered-spec : {M : Type 1} → statement M
-has-answered-spec =
-    tie.close
-    (tie.spec
-    mul_at
-    add_at
-    add-listed
-    sub-listed
-    part-listed-start
-    part-listed-end
-    listed-requires
-    returns
-    add-listed-2
-    sub-listed-2
-    part-listed-start-2
-    part-listed-end-2
-    listed-requires-2
-    returns-2)
+pub returns : goal.returns
+returns c = search by_no

@@ -11,37 +11,13 @@ use Rattle.proposer_area.specs.Places.{place_in}
 use Rattle.proposer_area.specs.Turns.{lent_place_lem}
 use Rattle.proposer_area.specs.PlaceLent.{lent_bytes}
 use borrow.Author.Rules.{rules}
-use Rattle.proposer_area.proofs.places.take_place.Statement.{statement}
-use Rattle.proposer_area.proofs.places.take_place.Tie as tie
+use Rattle.proposer_area.proofs.places.take_place.Goals as goal
 
 front_at : (a : List ℕ) (i : ℕ) (f : Front) → f ≡ front_of (read_pending (take (80 + 976 * i + 976 - (80 + 976 * i)) (drop (80 + 976 * i) a))) → f ≡ front_of (read_pending (place_in a i))
 front_at a i f e = e ∙ ap (λ (b : List ℕ). front_of (read_pending b)) (lent_place_lem a i)
 
-mul_at : tie.Need-overflow-mul-at
-mul_at c = search rules
+pub take-requires : goal.take-requires
+take-requires c = search lent_bytes
 
-add_at : tie.Need-overflow-add-at
-add_at c = search rules
-
-add-take : tie.Need-overflow-add-take
-add-take c = search rules
-
-sub-take : tie.Need-overflow-sub-take
-sub-take c = search rules
-
-part-take-start : tie.Need-slice-bounds-take-start
-part-take-start c = search rules
-
-part-take-end : tie.Need-slice-bounds-take-end
-part-take-end c = search rules
-
-take-requires : tie.Need-take-requires
-take-requires c κs = search lent_bytes
-
-returns : tie.Need-returns
+pub returns : goal.returns
 returns c = (search front_at, search rules, search rules, search rules)
-
-pub take-place-spec : {M : Type 1} → statement M
-take-place-spec =
-    tie.close
-    (tie.spec mul_at add_at add-take sub-take part-take-start part-take-end take-requires returns)

@@ -14,9 +14,7 @@ use Rattle.proposer_place.specs.Front.{front_of}
 use Rattle.proposer_place.specs.Rows.{entries-length}
 use Rattle.proposer_area.specs.Places.{place_in}
 use Rattle.proposer_area.specs.Turns.{lent_place_lem}
-use borrow.Author.Rules.{rules}
-use Rattle.proposer_area.proofs.places.is_waited_for.Statement.{statement}
-use Rattle.proposer_area.proofs.places.is_waited_for.Tie as tie
+use Rattle.proposer_area.proofs.places.is_waited_for.Goals as goal
 
 waited : (a : List ℕ) (i x : ℕ) (f : Front) (r : Bool) → f ≡ front_of (read_pending (place_in a i)) → r ≡ listed x (entries (take (80 + 976 * i + 976 - (80 + 976 * i)) (drop (80 + 976 * i) a)) 52 f.waiting_for) → r ≡ listed x (read_pending (place_in a i)).waiting_for
 unfolding front_of read_pending
@@ -24,39 +22,5 @@ waited a i x f r e er =
     let count : f.waiting_for ≡ byte (place_in a i) waited_count_at = ap (λ (g : Front). g.waiting_for) e ∙ entries-length (place_in a i) waited_at (byte (place_in a i) waited_count_at) in
     er ∙ ap (λ (b : List ℕ). listed x (entries b 52 f.waiting_for)) (lent_place_lem a i) ∙ ap (λ (k : ℕ). listed x (entries (place_in a i) 52 k)) count
 
-mul_at : tie.Need-overflow-mul-at
-mul_at c = search rules
-
-add_at : tie.Need-overflow-add-at
-add_at c = search rules
-
-add-listed : tie.Need-overflow-add-listed
-add-listed c = search rules
-
-sub-listed : tie.Need-overflow-sub-listed
-sub-listed c = search rules
-
-part-listed-start : tie.Need-slice-bounds-listed-start
-part-listed-start c = search rules
-
-part-listed-end : tie.Need-slice-bounds-listed-end
-part-listed-end c = search rules
-
-listed-requires : tie.Need-listed-requires
-listed-requires c κs = search rules
-
-returns : tie.Need-returns
+pub returns : goal.returns
 returns c = search waited
-
-pub is-waited-for-spec : {M : Type 1} → statement M
-is-waited-for-spec =
-    tie.close
-    (tie.spec
-    mul_at
-    add_at
-    add-listed
-    sub-listed
-    part-listed-start
-    part-listed-end
-    listed-requires
-    returns)

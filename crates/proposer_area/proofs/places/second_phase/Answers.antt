@@ -14,8 +14,7 @@ use Rattle.proposer_place.specs.Front.{Used}
 use Rattle.proposer_area.specs.Places.{place_at, place_in}
 use Rattle.proposer_area.specs.PlaceLent.{lent_has, place_worked}
 use borrow.Author.Rules.{rules}
-use Rattle.proposer_area.proofs.places.second_phase.Statement.{statement}
-use Rattle.proposer_area.proofs.places.second_phase.Tie as tie
+use Rattle.proposer_area.proofs.places.second_phase.Goals as goal
 
 used : (a : List ℕ) (i : ℕ) → Used (place_in a i) → Used (take (80 + 976 * i + 976 - (80 + 976 * i)) (drop (80 + 976 * i) a))
 used = lent_has Used
@@ -23,43 +22,8 @@ used = lent_has Used
 begun : (a ys list : List ℕ) (i n : ℕ) → place_at i + place_bytes ≤ length a → length ys ≡ length (take (80 + 976 * i + 976 - (80 + 976 * i)) (drop (80 + 976 * i) a)) → ys ≡ place_image (some (second_phase (entries list 0 n) (read_pending (take (80 + 976 * i + 976 - (80 + 976 * i)) (drop (80 + 976 * i) a))))) → put_mid (80 + 976 * i) (80 + 976 * i + 976 - (80 + 976 * i)) a ys ≡ sets a (place_at i) (place_image (some (second_phase (entries list 0 n) (read_pending (place_in a i)))))
 begun a ys list i n = place_worked (λ (b : List ℕ). place_image (some (second_phase (entries list 0 n) (read_pending b)))) a ys i
 
-mul_at : tie.Need-overflow-mul-at
-mul_at c = search rules
+pub second_phase-requires : goal.second_phase-requires
+second_phase-requires c = (search used, search rules, search rules)
 
-add_at : tie.Need-overflow-add-at
-add_at c = search rules
-
-add-second-phase : tie.Need-overflow-add-second-phase
-add-second-phase c = search rules
-
-sub-second-phase : tie.Need-overflow-sub-second-phase
-sub-second-phase c = search rules
-
-part-second-phase-start : tie.Need-slice-bounds-second-phase-start
-part-second-phase-start c = search rules
-
-part-second-phase-end : tie.Need-slice-bounds-second-phase-end
-part-second-phase-end c = search rules
-
-second-phase-requires : tie.Need-second-phase-requires
-second-phase-requires c κs = (search used, search rules, search rules)
-
-same-length : tie.Need-same-length
-same-length c = search rules
-
-returns : tie.Need-returns
+pub returns : goal.returns
 returns c = search begun
-
-pub second-phase-spec : {M : Type 1} → statement M
-second-phase-spec =
-    tie.close
-    (tie.spec
-    mul_at
-    add_at
-    add-second-phase
-    sub-second-phase
-    part-second-phase-start
-    part-second-phase-end
-    second-phase-requires
-    same-length
-    returns)

@@ -15,8 +15,7 @@ use Rattle.proposer_place.specs.Front.{Used}
 use Rattle.proposer_area.specs.Places.{place_at, place_in}
 use Rattle.proposer_area.specs.PlaceLent.{lent_has, place_worked}
 use borrow.Author.Rules.{rules}
-use Rattle.proposer_area.proofs.places.again.Statement.{statement}
-use Rattle.proposer_area.proofs.places.again.Tie as tie
+use Rattle.proposer_area.proofs.places.again.Goals as goal
 
 used : (a : List ℕ) (i : ℕ) → Used (place_in a i) → Used (take (80 + 976 * i + 976 - (80 + 976 * i)) (drop (80 + 976 * i) a))
 used = lent_has Used
@@ -24,43 +23,8 @@ used = lent_has Used
 anew : (a ys list : List ℕ) (i n : ℕ) (ballot : Ballot) → place_at i + place_bytes ≤ length a → length ys ≡ length (take (80 + 976 * i + 976 - (80 + 976 * i)) (drop (80 + 976 * i) a)) → ys ≡ place_image (some (asked_again ballot (entries list 0 n) (read_pending (take (80 + 976 * i + 976 - (80 + 976 * i)) (drop (80 + 976 * i) a))))) → put_mid (80 + 976 * i) (80 + 976 * i + 976 - (80 + 976 * i)) a ys ≡ sets a (place_at i) (place_image (some (asked_again ballot (entries list 0 n) (read_pending (place_in a i)))))
 anew a ys list i n ballot = place_worked (λ (b : List ℕ). place_image (some (asked_again ballot (entries list 0 n) (read_pending b)))) a ys i
 
-mul_at : tie.Need-overflow-mul-at
-mul_at c = search rules
+pub again-requires : goal.again-requires
+again-requires c = (search used, search rules, search rules)
 
-add_at : tie.Need-overflow-add-at
-add_at c = search rules
-
-add-again : tie.Need-overflow-add-again
-add-again c = search rules
-
-sub-again : tie.Need-overflow-sub-again
-sub-again c = search rules
-
-part-again-start : tie.Need-slice-bounds-again-start
-part-again-start c = search rules
-
-part-again-end : tie.Need-slice-bounds-again-end
-part-again-end c = search rules
-
-again-requires : tie.Need-again-requires
-again-requires c κs = (search used, search rules, search rules)
-
-same-length : tie.Need-same-length
-same-length c = search rules
-
-returns : tie.Need-returns
+pub returns : goal.returns
 returns c = search anew
-
-pub again_spec : {M : Type 1} → statement M
-again_spec =
-    tie.close
-    (tie.spec
-    mul_at
-    add_at
-    add-again
-    sub-again
-    part-again-start
-    part-again-end
-    again-requires
-    same-length
-    returns)

@@ -13,9 +13,7 @@ use Rattle.proposer_place.specs.Area.{place_bytes, place_image, read_pending}
 use Rattle.proposer_place.specs.Front.{Used}
 use Rattle.proposer_area.specs.Places.{place_at, place_in}
 use Rattle.proposer_area.specs.PlaceLent.{lent_has, place_worked}
-use borrow.Author.Rules.{rules}
-use Rattle.proposer_area.proofs.places.note_yes.Statement.{statement}
-use Rattle.proposer_area.proofs.places.note_yes.Tie as tie
+use Rattle.proposer_area.proofs.places.note_yes.Goals as goal
 
 used : (a : List ℕ) (i : ℕ) → Used (place_in a i) → Used (take (80 + 976 * i + 976 - (80 + 976 * i)) (drop (80 + 976 * i) a))
 used = lent_has Used
@@ -26,43 +24,8 @@ room_left = lent_has (λ (b : List ℕ). length (read_pending b).acks_from < 15)
 noted : (a ys : List ℕ) (i : ℕ) (from : Address) → place_at i + place_bytes ≤ length a → length ys ≡ length (take (80 + 976 * i + 976 - (80 + 976 * i)) (drop (80 + 976 * i) a)) → ys ≡ place_image (some (with_yes (read_pending (take (80 + 976 * i + 976 - (80 + 976 * i)) (drop (80 + 976 * i) a))) from (read_pending (take (80 + 976 * i + 976 - (80 + 976 * i)) (drop (80 + 976 * i) a))).promised (read_pending (take (80 + 976 * i + 976 - (80 + 976 * i)) (drop (80 + 976 * i) a))).value)) → put_mid (80 + 976 * i) (80 + 976 * i + 976 - (80 + 976 * i)) a ys ≡ sets a (place_at i) (place_image (some (with_yes (read_pending (place_in a i)) from (read_pending (place_in a i)).promised (read_pending (place_in a i)).value)))
 noted a ys i from = place_worked (λ (b : List ℕ). place_image (some (with_yes (read_pending (b)) from (read_pending (b)).promised (read_pending (b)).value))) a ys i
 
-mul_at : tie.Need-overflow-mul-at
-mul_at c = search rules
+pub note_yes-requires : goal.note_yes-requires
+note_yes-requires c = (search used, search room_left)
 
-add_at : tie.Need-overflow-add-at
-add_at c = search rules
-
-add-note-yes : tie.Need-overflow-add-note-yes
-add-note-yes c = search rules
-
-sub-note-yes : tie.Need-overflow-sub-note-yes
-sub-note-yes c = search rules
-
-part-note-yes-start : tie.Need-slice-bounds-note-yes-start
-part-note-yes-start c = search rules
-
-part-note-yes-end : tie.Need-slice-bounds-note-yes-end
-part-note-yes-end c = search rules
-
-note-yes-requires : tie.Need-note-yes-requires
-note-yes-requires c κs = (search used, search room_left)
-
-same-length : tie.Need-same-length
-same-length c = search rules
-
-returns : tie.Need-returns
+pub returns : goal.returns
 returns c = search noted
-
-pub note-yes-spec : {M : Type 1} → statement M
-note-yes-spec =
-    tie.close
-    (tie.spec
-    mul_at
-    add_at
-    add-note-yes
-    sub-note-yes
-    part-note-yes-start
-    part-note-yes-end
-    note-yes-requires
-    same-length
-    returns)

@@ -10,9 +10,7 @@ use lib.Seq.{sets}
 use Rattle.proposer_place.specs.Area.{place_bytes, place_image}
 use Rattle.proposer_area.specs.Places.{place_at}
 use Rattle.proposer_area.specs.PlaceLent.{lent_bytes, put_place}
-use borrow.Author.Rules.{rules}
-use Rattle.proposer_area.proofs.places.drop_place.Statement.{statement}
-use Rattle.proposer_area.proofs.places.drop_place.Tie as tie
+use Rattle.proposer_area.proofs.places.drop_place.Goals as goal
 
 cleared : (a ys : List ℕ) (i : ℕ) → place_at i + place_bytes ≤ length a → ys ≡ replicate (length (take (80 + 976 * i + 976 - (80 + 976 * i)) (drop (80 + 976 * i) a))) 0 → put_mid (80 + 976 * i) (80 + 976 * i + 976 - (80 + 976 * i)) a ys ≡ sets a (place_at i) (place_image none)
 unfolding place_image
@@ -20,43 +18,5 @@ cleared a ys i room e =
     let zeros : ys ≡ replicate 976 0 = e ∙ ap (λ (k : ℕ). replicate k 0) (lent_bytes a i room) in
     put_place a ys i room (ap length zeros ∙ length-replicate {A = ℕ} 976 0) ∙ ap (sets a (place_at i)) zeros
 
-mul_at : tie.Need-overflow-mul-at
-mul_at c = search rules
-
-add_at : tie.Need-overflow-add-at
-add_at c = search rules
-
-add-clear : tie.Need-overflow-add-clear
-add-clear c = search rules
-
-sub-clear : tie.Need-overflow-sub-clear
-sub-clear c = search rules
-
-part-clear-start : tie.Need-slice-bounds-clear-start
-part-clear-start c = search rules
-
-part-clear-end : tie.Need-slice-bounds-clear-end
-part-clear-end c = search rules
-
-clear-requires : tie.Need-clear-requires
-clear-requires c κs = search rules
-
-same-length : tie.Need-same-length
-same-length c = search rules
-
-returns : tie.Need-returns
+pub returns : goal.returns
 returns c = search cleared
-
-pub drop-place-spec : {M : Type 1} → statement M
-drop-place-spec =
-    tie.close
-    (tie.spec
-    mul_at
-    add_at
-    add-clear
-    sub-clear
-    part-clear-start
-    part-clear-end
-    clear-requires
-    same-length
-    returns)

@@ -3,14 +3,12 @@
 use mathlib.Core.Path.{◌≡◌}
 use mathlib.Core.Bool.{false}
 use mathlib.Core.List.{List}
-use Prim.Native.Nat.{ℕ, ◌+◌, ◌-◌, ◌*◌, ◌≤◌, ◌<◌}
+use Prim.Native.Nat.{ℕ, ◌+◌, ◌*◌, ◌≤◌, ◌<◌}
 use borrow.Author.Tests.{le-leb, lt-leb}
 use lib.Dec.{eqb}
 use lib.ListN.{length}
 use Rattle.proposer_place.specs.Area.{sized}
-use borrow.Author.Rules.{rules}
-use Rattle.proposer_area.proofs.is_sized.Statement.{statement}
-use Rattle.proposer_area.proofs.is_sized.Tie as tie
+use Rattle.proposer_area.proofs.is_sized.Goals as goal
 
 module _ (a : List ℕ) (n : ℕ) where
   no_places : n < 1 → false ≡ sized a n
@@ -25,20 +23,11 @@ module _ (a : List ℕ) (n : ℕ) where
   unfolding sized
   by_length least most = rw (le-leb 1 n least, le-leb n 32 most)
 
-returns : tie.Need-returns
-returns c = search no_places
+pub returns-then-places-lt1 : goal.returns-then-places-lt1
+returns-then-places-lt1 c = search no_places
 
-returns-2 : tie.Need-returns-2
-returns-2 c = search too_many
+pub returns-then-places-gt-PENDING_MOST : goal.returns-then-places-gt-PENDING_MOST
+returns-then-places-gt-PENDING_MOST c = search too_many
 
-mul-result : tie.Need-overflow-mul-result
-mul-result c = search rules
-
-add-result : tie.Need-overflow-add-result
-add-result c = search rules
-
-returns-3 : tie.Need-returns-3
-returns-3 c = search by_length
-
-pub is-sized-spec : {M : Type 1} → statement M
-is-sized-spec = tie.close (tie.spec returns returns-2 mul-result add-result returns-3)
+pub returns : goal.returns
+returns c = search by_length

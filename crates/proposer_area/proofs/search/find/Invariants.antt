@@ -1,0 +1,14 @@
+-- `proposer_area::search::find` meets its contract. The loop's invariant: the search of what is left of the places gives the answer.
+-- Assumes nothing.
+use mathlib.Core.Path.{◌≡◌}
+use Prim.Native.Nat.{◌+◌, ◌-◌, ◌≤◌}
+use Rattle.proposer_place.specs.Area.{header_bytes, read_places}
+use Rattle.proposer_area.specs.Places.{place_at, place_of}
+use Rattle.proposer_area.specs.Turns.{Sized}
+use Rattle.proposer_area.proofs.search.find.Given as goal
+
+abbrev pub invariant-loop-i : goal.invariant-loop-i
+invariant-loop-i l = Sized l.area l.places × (l.i ≤ l.places) × (l.i + place_of l.ballot (read_places l.area (place_at l.i) (l.places - l.i)) ≡ place_of l.ballot (read_places l.area header_bytes l.places))
+
+abbrev pub decreases-loop-i : goal.decreases-loop-i
+decreases-loop-i l = l.places - l.i
