@@ -38,9 +38,9 @@ option_fits_lem none = refl
 option_fits_lem (some v) = refl
 
 request_fits_lem : (r : Request) → request_fits r ≡ (leb (length (key_of r)) key_most && leb (length (bytes_of (first_value r))) value_most && leb (length (bytes_of (second_value r))) value_most)
-request_fits_lem (Request.Get k) = simp Booleans.and_true
-request_fits_lem (Request.Del k) = simp Booleans.and_true
-request_fits_lem (Request.Set k v) = simp Booleans.and_true
+request_fits_lem (Request.Get k) = simp Booleans.and-true
+request_fits_lem (Request.Del k) = simp Booleans.and-true
+request_fits_lem (Request.Set k v) = simp Booleans.and-true
 request_fits_lem (Request.Cas k old new) = rw (option_fits_lem old, option_fits_lem new)
 
 sizes_by_front : (p : Pending) (f : Front) → f ≡ front_of p → sizes_fit p ≡ (not (eqb f.client.0 0) && (leb f.key_len key_most && leb f.first_len value_most && leb f.second_len value_most) && leb f.value_len value_most && (leb f.waiting_for list_most && none_zero p.waiting_for) && leb f.acks_from list_most && leb f.nacks_from list_most)

@@ -57,7 +57,7 @@ module _ (b : List ℕ) (f : Front) (taken : TakenFrom b f) where
             many_noes yeses l = rw (by_lists, le-leb f.waiting_for 15 waited, le-leb f.acks_from 15 yeses, lt-leb f.nacks_from 15 l) (simp Booleans.and-false)
 
             by_entries : (r : Bool) → f.acks_from ≤ 15 → f.nacks_from ≤ 15 → r ≡ none_zero (entries b 52 f.waiting_for) → r ≡ sizes_fit (read_pending b)
-            by_entries r yeses noes e = rw (by_lists, le-leb f.waiting_for 15 waited, le-leb f.acks_from 15 yeses, le-leb f.nacks_from 15 noes, ← e) (simp Booleans.and_true)
+            by_entries r yeses noes e = rw (by_lists, le-leb f.waiting_for 15 waited, le-leb f.acks_from 15 yeses, le-leb f.nacks_from 15 noes, ← e) (simp Booleans.and-true)
 
   room : f.waiting_for ≤ 15 → 52 + 2 * f.waiting_for ≤ length b
   room l = let size = taken.sized in omega arith

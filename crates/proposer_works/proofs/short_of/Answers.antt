@@ -6,9 +6,7 @@ use Prim.Native.Nat.{ℕ}
 use borrow.Author.Tests.{lt-ltb, le-ltb, leb-true, leb-false}
 use lib.Dec.{ltb, leb}
 use Rattle.proposer_rules.specs.Rules.{majority_of}
-use borrow.Author.Rules.{rules}
-use Rattle.proposer_works.proofs.short_of.Statement.{statement}
-use Rattle.proposer_works.proofs.short_of.Tie as tie
+use Rattle.proposer_works.proofs.short_of.Goals as goal
 
 below : (answers m n : ℕ) → m ≡ majority_of n → ltb answers m ≡ not (leb (majority_of n) answers)
 below answers m n e = rw e (go (leb (majority_of n) answers) refl)
@@ -17,11 +15,5 @@ below answers m n e = rw e (go (leb (majority_of n) answers) refl)
     go true h = le-ltb answers (majority_of n) (leb-true (majority_of n) answers h)
     go false h = lt-ltb answers (majority_of n) (leb-false (majority_of n) answers h)
 
-majority-requires : tie.Need-majority-requires
-majority-requires c κs = search rules
-
-returns : tie.Need-returns
+pub returns : goal.returns
 returns c = search below
-
-pub short-of-spec : {M : Type 1} → statement M
-short-of-spec = tie.close (tie.spec majority-requires returns)
