@@ -11,9 +11,7 @@ use Rattle.proposer_area.specs.Turns.{sized_of}
 use Rattle.leaf_fields.specs.Fields.{to_le}
 use Rattle.proposer_place.specs.Area.{timeout_at, accept_count_at, propose_count_at, accept_list_at, propose_list_at, header_bytes, list_bytes, list_row, sized}
 use Rattle.proposer_lists.specs.ListLaws.{list_short, started}
-use borrow.Author.Rules.{rules}
-use Rattle.proposer_lists.proofs.begin.Statement.{statement}
-use Rattle.proposer_lists.proofs.begin.Tie as tie
+use Rattle.proposer_lists.proofs.begin.Goals as goal
 
 timeout_room : (a a₀ : List ℕ) (n : ℕ) → sized a n ≡ true → a₀ ≡ replicate (length a) 0 → timeout_at + 8 ≤ length a₀
 timeout_room a a₀ n h e = omega (arith, (sized_of a n h).bytes, ap length e, length-replicate {A = ℕ} (length a) 0)
@@ -37,40 +35,18 @@ propose_row_room a n t l a₀ a₁ a₂ h e₀ e₁ e₂ = omega (arith, accepti
 propose_count_room : (a : List ℕ) (n t : ℕ) (l a₀ a₁ a₂ : List ℕ) → sized a n ≡ true → a₀ ≡ replicate (length a) 0 → a₁ ≡ sets a₀ timeout_at (to_le 8 t) → a₂ ≡ set (sets a₁ accept_list_at (list_row l)) accept_count_at (length l) → propose_count_at < length a₂
 propose_count_room a n t l a₀ a₁ a₂ h e₀ e₁ e₂ = omega (arith, accepting_long a n t l a₀ a₁ h e₀ e₁ a₂ e₂)
 
-clear-requires : tie.Need-clear-requires
-clear-requires c κs = search rules
+pub put-requires : goal.put-requires
+put-requires c = search timeout_room
 
-put-requires : tie.Need-put-requires
-put-requires c κs = search timeout_room
+pub put_list-requires : goal.put_list-requires
+put_list-requires c =
+    let sizes = c.requires.0 in
+    (accept_row_room _ _ _ _ _ sizes c.clear.ensures c.put.ensures, accept_count_room _ _ _ _ _ sizes c.clear.ensures c.put.ensures, search list_short)
 
-put-list-requires : tie.Need-put-list-requires
-put-list-requires c κs =
-    let timed = c.before.before.before in
-    let cleared = timed.before.before.before.before in
-    let sizes = cleared.before.before.before.before.requires.0 in
-    (accept_row_room _ _ _ _ _ sizes cleared.clear.ensures timed.put.ensures, accept_count_room _ _ _ _ _ sizes cleared.clear.ensures timed.put.ensures, search list_short)
+pub put_list-requires-2 : goal.put_list-requires-2
+put_list-requires-2 c =
+    let sizes = c.requires.0 in
+    (propose_row_room _ _ _ _ _ _ _ sizes c.clear.ensures c.put.ensures c.put_list.ensures, propose_count_room _ _ _ _ _ _ _ sizes c.clear.ensures c.put.ensures c.put_list.ensures, search list_short)
 
-put-list-requires-2 : tie.Need-put-list-requires-2
-put-list-requires-2 c κs =
-    let accepting = c.before.before.before in
-    let timed = accepting.before.before.before.before in
-    let cleared = timed.before.before.before.before in
-    let sizes = cleared.before.before.before.before.requires.0 in
-    (propose_row_room _ _ _ _ _ _ _ sizes cleared.clear.ensures timed.put.ensures accepting.put-list.ensures, propose_count_room _ _ _ _ _ _ _ sizes cleared.clear.ensures timed.put.ensures accepting.put-list.ensures, search list_short)
-
-same-length : tie.Need-same-length
-same-length c = search rules
-
-returns : tie.Need-returns
+pub returns : goal.returns
 returns c = search started depth 9
-
-pub begin-spec : {M : Type 1} → statement M
-begin-spec =
-    tie.close
-    (tie.spec
-    clear-requires
-    put-requires
-    put-list-requires
-    put-list-requires-2
-    same-length
-    returns)

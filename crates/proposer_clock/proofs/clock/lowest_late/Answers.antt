@@ -14,28 +14,13 @@ use Rattle.proposer_rules.specs.State.{Pending, Proposer}
 use Rattle.proposer_place.specs.Area.{header_bytes, read_pending, read_place, read_places, sized, read_area}
 use Rattle.proposer_area.specs.Places.{place_at, place_in}
 use Rattle.proposer_clock.specs.Late.{none_below, late_of}
-use Rattle.proposer_area.specs.Turns.{lent_place, Sized, sized_of, places_turn, places_past, places_all, lent_place_lem, lent_length, passes, lent_passes, used_place}
+use Rattle.proposer_area.specs.Turns.{lent_place, sized_of, places_turn, places_past, places_all, lent_place_lem, lent_length, passes, lent_passes, used_place}
 use mathlib.Core.Logic.{⊎_elim}
 use Rattle.messages.specs.Ballots.{above}
 use Rattle.proposer_rules.specs.Rules.{late}
-use borrow.Author.Rules.{rules}
 use native.Mathlib.Omega.{arith}
-use Rattle.proposer_clock.proofs.clock.lowest_late.Statement.{statement}
-use Rattle.proposer_clock.proofs.clock.lowest_late.Tie as tie
-
--- for the places from i on: the late one with the lowest ballot, and whether a late one is below a ballot
-record Lowest (a : List ℕ) (n t found lowest i : ℕ) : Type 0 where
-  size : Sized a n
-  within : i ≤ n
-  place : found ≡ i + late_of (read_area a n) t (read_places a (place_at i) (n - i))
-  in-range : found ≤ n
-  below : (b : Ballot) → none_below (read_area a n) t b (read_places a (place_at i) (n - i)) ≡ (eqb found n || leb b.0 lowest)
-
-abbrev invariant-loop : tie.invariant-loop
-invariant-loop area places t timeout found₀ lowest₀ i₀ found lowest i = Lowest area places t found lowest i
-
-abbrev decreases-loop : tie.decreases-loop
-decreases-loop area places t timeout found₀ lowest₀ i₀ found lowest i = i
+use Rattle.proposer_clock.proofs.clock.lowest_late.Goals as goal
+use Rattle.proposer_clock.proofs.clock.lowest_late.Invariants.{Lowest}
 
 -- ---- a late request among others
 
@@ -156,93 +141,24 @@ done a n t found lowest i inv h =
     let there = rw (e, places_all a n) at inv.place in
     (omega arith, inv.in-range)
 
-loop-holds : tie.Need-loop-init invariant-loop decreases-loop
-loop-holds c = search begin
+pub loop-i-init : goal.loop-i-init
+loop-i-init c = search begin
 
-sub-i : tie.Need-overflow-sub-i invariant-loop decreases-loop
-sub-i c = search rules
+pub late-requires : goal.late-requires
+late-requires c = search lent_place_before
 
-mul_at : tie.Need-overflow-mul-at invariant-loop decreases-loop
-mul_at c = search rules
+pub ballot-ballot-requires : goal.ballot-ballot-requires
+ballot-ballot-requires c = search lent_place_before
 
-add_at : tie.Need-overflow-add-at invariant-loop decreases-loop
-add_at c = search rules
+pub loop-i-preserved-then-late : goal.loop-i-preserved-then-late
+loop-i-preserved-then-late c =
+    ⊎_elim (λ w. search taken_first depth 12) (λ w. search (taken_lower, le-leb) depth 12) c.then-found-places.either
 
-add-late : tie.Need-overflow-add-late invariant-loop decreases-loop
-add-late c = search rules
+pub loop-i-preserved-then-late-2 : goal.loop-i-preserved-then-late-2
+loop-i-preserved-then-late-2 c = search passed_on depth 12
 
-sub-late : tie.Need-overflow-sub-late invariant-loop decreases-loop
-sub-late c = search rules
+pub loop-i-preserved : goal.loop-i-preserved
+loop-i-preserved c = search skipped depth 9
 
-part-late-start : tie.Need-slice-bounds-late-start invariant-loop decreases-loop
-part-late-start c = search rules
-
-part-late-end : tie.Need-slice-bounds-late-end invariant-loop decreases-loop
-part-late-end c = search rules
-
-late-requires : tie.Need-late-requires invariant-loop decreases-loop
-late-requires c κs = search lent_place_before
-
-add-ballot : tie.Need-overflow-add-ballot invariant-loop decreases-loop
-add-ballot c = search rules
-
-sub-ballot : tie.Need-overflow-sub-ballot invariant-loop decreases-loop
-sub-ballot c = search rules
-
-part-ballot-start : tie.Need-slice-bounds-ballot-start invariant-loop decreases-loop
-part-ballot-start c = search rules
-
-part-ballot-end : tie.Need-slice-bounds-ballot-end invariant-loop decreases-loop
-part-ballot-end c = search rules
-
-ballot-requires : tie.Need-ballot-requires invariant-loop decreases-loop
-ballot-requires c κs = search lent_place_before
-
-loop-less : tie.Need-loop-smaller invariant-loop decreases-loop
-loop-less c = search rules
-
-loop-again : tie.Need-loop-preserved invariant-loop decreases-loop
-loop-again c = ⊎_elim (λ w. search taken_first depth 12) (λ w. search taken_lower depth 12) c.if2.branch
-
-loop-less-2 : tie.Need-loop-smaller-2 invariant-loop decreases-loop
-loop-less-2 c = search rules
-
-loop-again-2 : tie.Need-loop-preserved-2 invariant-loop decreases-loop
-loop-again-2 c = search passed_on depth 12
-
-loop-less-3 : tie.Need-loop-smaller-3 invariant-loop decreases-loop
-loop-less-3 c = search rules
-
-loop-again-3 : tie.Need-loop-preserved-3 invariant-loop decreases-loop
-loop-again-3 c = search skipped depth 9
-
-returns : tie.Need-returns invariant-loop decreases-loop
-returns c = done _ _ _ _ _ _ c.before.loop.invariant c.loop-test.false
-
-pub lowest-late-spec : {M : Type 1} → statement M
-lowest-late-spec =
-    tie.close
-    (tie.spec
-    invariant-loop
-    decreases-loop
-    loop-holds
-    sub-i
-    mul_at
-    add_at
-    add-late
-    sub-late
-    part-late-start
-    part-late-end
-    late-requires
-    add-ballot
-    sub-ballot
-    part-ballot-start
-    part-ballot-end
-    ballot-requires
-    loop-less
-    loop-again
-    loop-less-2
-    loop-again-2
-    loop-less-3
-    loop-again-3
-    returns)
+pub returns : goal.returns
+returns c = done _ _ _ _ _ _ c.loop-i.invariant c.loop-i-test.false

@@ -12,8 +12,7 @@ use Rattle.messages.specs.Limits.{list_most}
 use Rattle.proposer_place.specs.Area.{list_bytes, list_row}
 use Rattle.proposer_place.specs.AreaRows.{length_list}
 use borrow.Author.Rules.{rules}
-use Rattle.proposer_lists.proofs.put_list.Statement.{statement}
-use Rattle.proposer_lists.proofs.put_list.Tie as tie
+use Rattle.proposer_lists.proofs.put_list.Goals as goal
 
 lent_bytes : (a : List ℕ) (row : ℕ) → row + list_bytes ≤ length a → length (take (row + 30 - row) (drop row a)) ≡ list_bytes
 lent_bytes a row room =
@@ -33,43 +32,8 @@ put_row a list ys row room short e =
 list_put : (a list ys : List ℕ) (row count : ℕ) → row + list_bytes ≤ length a → length list ≤ list_most → ys ≡ list_row list → set (put_mid row (row + 30 - row) a ys) count (length list) ≡ set (sets a row (list_row list)) count (length list)
 list_put a list ys row count room short e = ap (λ (r : List ℕ). set r count (length list)) (put_row a list ys row room short e)
 
-add-end : tie.Need-overflow-add-end
-add-end c = search rules
+pub write_row-requires : goal.write_row-requires
+write_row-requires c = (search lent_bytes, search rules)
 
-sub-write-row : tie.Need-overflow-sub-write-row
-sub-write-row c = search rules
-
-part-write-row-start : tie.Need-slice-bounds-write-row-start
-part-write-row-start c = search rules
-
-part-write-row-end : tie.Need-slice-bounds-write-row-end
-part-write-row-end c = search rules
-
-write-row-requires : tie.Need-write-row-requires
-write-row-requires c κs = (search lent_bytes, search rules)
-
-cast-area : tie.Need-overflow-cast-area
-cast-area c = search rules
-
-slice-write-area : tie.Need-slice-write-area
-slice-write-area c = search rules
-
-same-length : tie.Need-same-length
-same-length c = search rules
-
-returns : tie.Need-returns
+pub returns : goal.returns
 returns c = search list_put
-
-pub put-list-spec : {M : Type 1} → statement M
-put-list-spec =
-    tie.close
-    (tie.spec
-    add-end
-    sub-write-row
-    part-write-row-start
-    part-write-row-end
-    write-row-requires
-    cast-area
-    slice-write-area
-    same-length
-    returns)

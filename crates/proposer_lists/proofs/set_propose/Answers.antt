@@ -8,9 +8,7 @@ use Rattle.proposer_place.specs.Area.{propose_list_at, propose_count_at, list_by
 use Rattle.proposer_area.specs.Turns.{sized_of}
 use Rattle.proposer_area.specs.Held.{Held}
 use Rattle.proposer_lists.specs.ListLaws.{propose_set, list_short}
-use borrow.Author.Rules.{rules}
-use Rattle.proposer_lists.proofs.set_propose.Statement.{statement}
-use Rattle.proposer_lists.proofs.set_propose.Tie as tie
+use Rattle.proposer_lists.proofs.set_propose.Goals as goal
 
 row_room : (a : List ℕ) (n : ℕ) → Held a n → propose_list_at + list_bytes ≤ length a
 row_room a n held = omega (arith, (sized_of a n held.sized).bytes)
@@ -18,14 +16,8 @@ row_room a n held = omega (arith, (sized_of a n held.sized).bytes)
 count_room : (a : List ℕ) (n : ℕ) → Held a n → propose_count_at < length a
 count_room a n held = omega (arith, (sized_of a n held.sized).bytes)
 
-put-list-requires : tie.Need-put-list-requires
-put-list-requires c κs = (search row_room, search count_room, search list_short)
+pub put_list-requires : goal.put_list-requires
+put_list-requires c = (search row_room, search count_room, search list_short)
 
-same-length : tie.Need-same-length
-same-length c = search rules
-
-returns : tie.Need-returns
+pub returns : goal.returns
 returns c = search propose_set
-
-pub set-propose-spec : {M : Type 1} → statement M
-set-propose-spec = tie.close (tie.spec put-list-requires same-length returns)

@@ -10,9 +10,7 @@ use Rattle.leaf_fields.specs.Fields.{to_le}
 use Rattle.leaf_fields.specs.Laws.{length-to_le}
 use Rattle.messages.specs.declared.Address.{Address}
 use Rattle.messages.specs.Answers.{rows_at, row_bytes, rows_bytes}
-use borrow.Author.Rules.{rules}
-use Rattle.proposer_clock.proofs.put_row.Statement.{statement}
-use Rattle.proposer_clock.proofs.put_row.Tie as tie
+use Rattle.proposer_clock.proofs.put_row.Goals as goal
 
 row_stored : (w w₁ w₂ : List ℕ) (k id : ℕ) (client : Address) → w₁ ≡ sets w (350 + 10 * k) (to_le 2 client.0) → w₂ ≡ sets w₁ (350 + 10 * k + 2) (to_le 8 id) → w₂ ≡ sets w (rows_at + row_bytes * k) (rows_bytes (record { client = client; id = id } ∷ []))
 unfolding rows_bytes
@@ -21,31 +19,5 @@ row_stored w w₁ w₂ k id client e₁ e₂ =
     ∙ sets_join w (to_le 2 client.0) (to_le 8 id) (350 + 10 * k) (350 + 10 * k + 2) (omega (arith, length-to_le 2 client.0))
     ∙ ap (λ (r : List ℕ). sets w (350 + 10 * k) (to_le 2 client.0 ++ r)) (sym (append-nil (to_le 8 id)))
 
-mul_at : tie.Need-overflow-mul-at
-mul_at c = search rules
-
-add_at : tie.Need-overflow-add-at
-add_at c = search rules
-
-cast-put : tie.Need-overflow-cast-put
-cast-put c = search rules
-
-put-requires : tie.Need-put-requires
-put-requires c κs = search rules
-
-add-put : tie.Need-overflow-add-put
-add-put c = search rules
-
-put-requires-2 : tie.Need-put-requires-2
-put-requires-2 c κs = search rules
-
-same-length : tie.Need-same-length
-same-length c = search rules
-
-returns : tie.Need-returns
+pub returns : goal.returns
 returns c = search row_stored
-
-pub put-row-spec : {M : Type 1} → statement M
-put-row-spec =
-    tie.close
-    (tie.spec mul_at add_at cast-put put-requires add-put put-requires-2 same-length returns)

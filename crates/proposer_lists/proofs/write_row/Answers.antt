@@ -2,7 +2,7 @@
 -- Assumes nothing.
 use mathlib.Core.Path.{◌≡◌, ap, ◌∙◌}
 use mathlib.Core.List.{List}
-use Prim.Native.Nat.{ℕ, suc, ◌+◌, ◌-◌, ◌*◌, ◌≤◌, ◌<◌}
+use Prim.Native.Nat.{ℕ, suc, ◌+◌, ◌*◌, ◌≤◌, ◌<◌}
 use native.Mathlib.Numerals.{add-one}
 use native.Mathlib.Omega.{arith}
 use lib.ListN.{length, get_or, drop, replicate, drop_of_length-le}
@@ -15,14 +15,7 @@ use Rattle.messages.specs.Answers.{entry_bytes}
 use Rattle.proposer_place.specs.Area.{list_bytes, list_row}
 use Rattle.proposer_place.specs.AreaRows.{length_entries}
 use borrow.Author.Rules.{rules}
-use Rattle.proposer_lists.proofs.write_row.Statement.{statement}
-use Rattle.proposer_lists.proofs.write_row.Tie as tie
-
-abbrev invariant-loop : tie.invariant-loop
-invariant-loop d₀ list i₀ d i = (i ≤ length list) × (length d ≡ list_bytes) × (sets d (2 * i) (entry_bytes (drop i list)) ≡ list_row list)
-
-abbrev decreases-loop : tie.decreases-loop
-decreases-loop d₀ list i₀ d i = length list - i
+use Rattle.proposer_lists.proofs.write_row.Goals as goal
 
 zeros_hold : (d₀ d list : List ℕ) → length d₀ ≡ list_bytes → length list ≤ list_most → d ≡ replicate (length d₀) 0 → sets d (2 * 0) (entry_bytes list) ≡ list_row list
 unfolding list_row
@@ -43,57 +36,14 @@ all_stored : (d list r : List ℕ) (i : ℕ) → length list ≤ i → sets d (2
 unfolding entry_bytes
 all_stored d list r i past e = rw (drop_of_length-le list past) at e
 
-clear-requires : tie.Need-clear-requires invariant-loop decreases-loop
-clear-requires c κs = search rules
+pub loop-i-init : goal.loop-i-init
+loop-i-init c = (search rules, search rules, search zeros_hold)
 
-loop-holds : tie.Need-loop-init invariant-loop decreases-loop
-loop-holds c = (search rules, search rules, search zeros_hold)
+pub overflow_cast-list : goal.overflow_cast-list
+overflow_cast-list c = omega (arith, c.type_inv.list c.loop-i.i)
 
-mul-put : tie.Need-overflow-mul-put invariant-loop decreases-loop
-mul-put c = search rules
+pub loop-i-preserved : goal.loop-i-preserved
+loop-i-preserved c = (search rules, search rules, search one_more)
 
-mul-put-2 : tie.Need-overflow-mul-put-2 invariant-loop decreases-loop
-mul-put-2 c = search rules
-
-shared-slice-read-put : tie.Need-shared-slice-read-put invariant-loop decreases-loop
-shared-slice-read-put c = search rules
-
-cast-put : tie.Need-overflow-cast-put invariant-loop decreases-loop
-cast-put c = omega (arith, c.shared-slice-known2.given c.before.before.before.loop.i)
-
-put-requires : tie.Need-put-requires invariant-loop decreases-loop
-put-requires c κs = search rules
-
-add-i : tie.Need-overflow-add-i invariant-loop decreases-loop
-add-i c = search rules
-
-loop-less : tie.Need-loop-smaller invariant-loop decreases-loop
-loop-less c = search rules
-
-loop-again : tie.Need-loop-preserved invariant-loop decreases-loop
-loop-again c = (search rules, search rules, search one_more)
-
-same-length : tie.Need-same-length invariant-loop decreases-loop
-same-length c = search rules
-
-returns : tie.Need-returns invariant-loop decreases-loop
+pub returns : goal.returns
 returns c = search all_stored
-
-pub write-row-spec : {M : Type 1} → statement M
-write-row-spec =
-    tie.close
-    (tie.spec
-    invariant-loop
-    decreases-loop
-    clear-requires
-    loop-holds
-    mul-put
-    mul-put-2
-    shared-slice-read-put
-    cast-put
-    put-requires
-    add-i
-    loop-less
-    loop-again
-    same-length
-    returns)

@@ -13,9 +13,7 @@ use Rattle.proposer_rules.specs.Rules as Rules
 use Rattle.proposer_place.specs.Area.{header_bytes, area_image, read_places, read_area}
 use Rattle.proposer_works.specs.Works.{Worked}
 use Rattle.proposer_clock.specs.TickLaws.{tick_back, tick_nothing, tick_told}
-use borrow.Author.Rules.{rules}
-use Rattle.proposer_clock.proofs.tick.Statement.{statement}
-use Rattle.proposer_clock.proofs.tick.Tie as tie
+use Rattle.proposer_clock.proofs.tick.Goals as goal
 
 nothing_late : (a w : List ℕ) (n t k : ℕ) (back : Bool) (a' w′ : List ℕ) → back ≡ clock_back t (read_places a header_bytes n) → back ≡ false → k ≡ length (late_ones (read_area a n) t (read_area a n).places) → a' ≡ area_image (moved (read_area a n) (read_area a n).counter (in_time (read_area a n) t (read_area a n).places)) → w′ ≡ sets w rows_at (rows_bytes (rows_of (late_ones (read_area a n) t (read_area a n).places))) → k ≡ 0 → Worked w (Rules.tick (read_area a n) t) Answer.Nothing a' w′
 nothing_late a w n t k back a' w′ e ahead told area rows z = tick_nothing a w n t k back a' w′ e ahead (record { told = told; area = area; rows = rows }) z
@@ -23,47 +21,11 @@ nothing_late a w n t k back a' w′ e ahead told area rows z = tick_nothing a w 
 some_told : (a w : List ℕ) (n t k : ℕ) (back : Bool) (a' w′ : List ℕ) → back ≡ clock_back t (read_places a header_bytes n) → back ≡ false → k ≡ length (late_ones (read_area a n) t (read_area a n).places) → a' ≡ area_image (moved (read_area a n) (read_area a n).counter (in_time (read_area a n) t (read_area a n).places)) → w′ ≡ sets w rows_at (rows_bytes (rows_of (late_ones (read_area a n) t (read_area a n).places))) → (k ≡ 0 → ⊥) → Worked w (Rules.tick (read_area a n) t) (Answer.Timeouts k) a' w′
 some_told a w n t k back a' w′ e ahead told area rows late = tick_told a w n t k back a' w′ e ahead (record { told = told; area = area; rows = rows }) late
 
-clock-back-requires : tie.Need-clock-back-requires
-clock-back-requires c κs = search rules
+pub returns-then-clock_back : goal.returns-then-clock_back
+returns-then-clock_back c = search tick_back depth 9
 
-same-length : tie.Need-same-length
-same-length c = search rules
+pub returns-then-rows-eq0 : goal.returns-then-rows-eq0
+returns-then-rows-eq0 c = search nothing_late depth 12
 
-returns : tie.Need-returns
-returns c = search tick_back depth 9
-
-expire-requires : tie.Need-expire-requires
-expire-requires c κs = search rules
-
-same-length-2 : tie.Need-same-length-2
-same-length-2 c = search rules
-
-same-length-3 : tie.Need-same-length-3
-same-length-3 c = search rules
-
-returns-2 : tie.Need-returns-2
-returns-2 c = search nothing_late depth 12
-
-same-length-4 : tie.Need-same-length-4
-same-length-4 c = search rules
-
-same-length-5 : tie.Need-same-length-5
-same-length-5 c = search rules
-
-returns-3 : tie.Need-returns-3
-returns-3 c = search some_told depth 12
-
-pub tick-spec : {M : Type 1} → statement M
-tick-spec =
-    tie.close
-    (tie.spec
-    clock-back-requires
-    same-length
-    returns
-    expire-requires
-    same-length-2
-    same-length-3
-    returns-2
-    same-length-4
-    same-length-5
-    returns-3)
+pub returns : goal.returns
+returns c = search some_told depth 12

@@ -4,7 +4,7 @@ use mathlib.Core.Path.{◌≡◌, sym, ap, ◌∙◌}
 use mathlib.Core.Bool.{true}
 use mathlib.Core.Option.{none}
 use mathlib.Core.List.{List, [], ◌∷◌}
-use Prim.Native.Nat.{ℕ, ◌+◌, ◌-◌, ◌*◌, ◌≤◌, ◌<◌}
+use Prim.Native.Nat.{ℕ, ◌+◌, ◌*◌, ◌≤◌, ◌<◌}
 use native.Mathlib.Numerals.{add-one}
 use native.Mathlib.Omega.{arith}
 use lib.ListN.{length}
@@ -23,14 +23,7 @@ use Rattle.proposer_area.specs.Held.{Held}
 use Rattle.proposer_area.specs.HeldLaws.{place_room}
 use Rattle.proposer_clock.specs.TickLaws.{Expiring, Expired, expire_begins, expire_ends, expire_full, expire_goes_on}
 use borrow.Author.Rules.{rules}
-use Rattle.proposer_clock.proofs.expire.Statement.{statement}
-use Rattle.proposer_clock.proofs.expire.Tie as tie
-
-abbrev invariant-loop : tie.invariant-loop
-invariant-loop area₀ places t answer₀ h k₀ area answer k = (k ≤ places) × Expiring area₀ answer₀ places t k area answer
-
-abbrev decreases-loop : tie.decreases-loop
-decreases-loop area₀ places t answer₀ h k₀ area answer k = places - k
+use Rattle.proposer_clock.proofs.expire.Goals as goal
 
 -- ---- what the calls require
 
@@ -70,71 +63,39 @@ none_late a w n t k a' w′ i here ei e = dropped a w n t k a' w′ (expire_ends
 all_told : (a w : List ℕ) (n t k : ℕ) (a' w′ : List ℕ) → Expiring a w n t k a' w′ → k ≤ n → n ≤ k → Dropped a w n t k a' w′
 all_told a w n t k a' w′ here most least = dropped a w n t k a' w′ (expire_full a w n t k a' w′ here (omega (arith, most, least)))
 
-take-header-requires : tie.Need-take-header-requires invariant-loop decreases-loop
-take-header-requires c κs = search header_room
+pub take_header-h-requires : goal.take_header-h-requires
+take_header-h-requires c = search header_room
 
-loop-holds : tie.Need-loop-init invariant-loop decreases-loop
-loop-holds c = (search rules, search expire_begins)
+pub loop-k-init : goal.loop-k-init
+loop-k-init c = (search rules, search expire_begins)
 
-lowest-late-requires : tie.Need-lowest-late-requires invariant-loop decreases-loop
-lowest-late-requires c κs = (search size_now, search timeout_now)
+pub lowest_late-i-requires : goal.lowest_late-i-requires
+lowest_late-i-requires c = (search size_now, search timeout_now)
 
-same-length : tie.Need-same-length invariant-loop decreases-loop
-same-length c = search same_size
+pub shape_of-area-then-i-places : goal.shape_of-area-then-i-places
+shape_of-area-then-i-places c = search same_size
 
-same-length-2 : tie.Need-same-length-2 invariant-loop decreases-loop
-same-length-2 c = search rules
+pub returns-then-i-places : goal.returns-then-i-places
+returns-then-i-places c = none_late _ _ _ _ _ _ _ _ c.loop-k.invariant.1 c.lowest_late-i.ensures.0 c.if-i-places.true
 
-returns : tie.Need-returns invariant-loop decreases-loop
-returns c = none_late _ _ _ _ _ _ _ _ c.before.before.before.before.loop.invariant.1 c.before.lowest-late.ensures.0 c.if1.true
+pub take_place-f-requires : goal.take_place-f-requires
+take_place-f-requires c = search room_now depth 9
 
-take-place-requires : tie.Need-take-place-requires invariant-loop decreases-loop
-take-place-requires c κs = search room_now depth 9
+pub put_row-requires : goal.put_row-requires
+put_row-requires c = search row_room depth 9
 
-put-row-requires : tie.Need-put-row-requires invariant-loop decreases-loop
-put-row-requires c κs = search row_room depth 9
+pub drop_place-requires : goal.drop_place-requires
+drop_place-requires c = search room_now depth 9
 
-drop-place-requires : tie.Need-drop-place-requires invariant-loop decreases-loop
-drop-place-requires c κs = search room_now depth 9
+pub overflow_add-k : goal.overflow_add-k
+overflow_add-k c =
+    omega (arith, c.loop-k-test.true, c.ranges.places)
 
-add-k : tie.Need-overflow-add-k invariant-loop decreases-loop
-add-k c =
-    let turn = c.before.before.before.before.before.before.before.before.before.before.before.before.before in
-    omega (arith, turn.loop-test.true, turn.before.before.before.before.before.before.ranges.places)
+pub loop-k-preserved : goal.loop-k-preserved
+loop-k-preserved c = (search rules, search one_more depth 12)
 
-loop-less : tie.Need-loop-smaller invariant-loop decreases-loop
-loop-less c = search rules
+pub shape_of-area : goal.shape_of-area
+shape_of-area c = search same_size
 
-loop-again : tie.Need-loop-preserved invariant-loop decreases-loop
-loop-again c = (search rules, search one_more depth 12)
-
-same-length-3 : tie.Need-same-length-3 invariant-loop decreases-loop
-same-length-3 c = search same_size
-
-same-length-4 : tie.Need-same-length-4 invariant-loop decreases-loop
-same-length-4 c = search rules
-
-returns-2 : tie.Need-returns-2 invariant-loop decreases-loop
-returns-2 c = all_told _ _ _ _ _ _ _ c.before.loop.invariant.1 c.before.loop.invariant.0 c.loop-test.false
-
-pub expire-spec : {M : Type 1} → statement M
-expire-spec =
-    tie.close
-    (tie.spec
-    invariant-loop
-    decreases-loop
-    take-header-requires
-    loop-holds
-    lowest-late-requires
-    same-length
-    same-length-2
-    returns
-    take-place-requires
-    put-row-requires
-    drop-place-requires
-    add-k
-    loop-less
-    loop-again
-    same-length-3
-    same-length-4
-    returns-2)
+pub returns : goal.returns
+returns c = all_told _ _ _ _ _ _ _ c.loop-k.invariant.1 c.loop-k.invariant.0 c.loop-k-test.false

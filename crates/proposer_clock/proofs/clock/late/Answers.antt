@@ -8,10 +8,8 @@ use borrow.Author.Tests.{le-ltb}
 use lib.Dec.{ltb}
 use Rattle.proposer_place.specs.Area.{read_pending}
 use Rattle.proposer_area.specs.Turns.{free_fails, used_decides}
-use borrow.Author.Rules.{rules}
 use native.Mathlib.Omega.{arith}
-use Rattle.proposer_clock.proofs.clock.late.Statement.{statement}
-use Rattle.proposer_clock.proofs.clock.late.Tie as tie
+use Rattle.proposer_clock.proofs.clock.late.Goals as goal
 
 not_yet : (b : List ℕ) (x t timeout : ℕ) → x ≡ (read_pending b).received_at → t < x → false ≡ ltb timeout (t - (read_pending b).received_at)
 not_yet b x t timeout e h = sym (le-ltb timeout (t - (read_pending b).received_at) (omega arith))
@@ -19,20 +17,11 @@ not_yet b x t timeout e h = sym (le-ltb timeout (t - (read_pending b).received_a
 by_arrival : (b : List ℕ) (x t timeout : ℕ) → x ≡ (read_pending b).received_at → ltb timeout (t - x) ≡ ltb timeout (t - (read_pending b).received_at)
 by_arrival b x t timeout e = rw e
 
-is-free-requires : tie.Need-is-free-requires
-is-free-requires c κs = search rules
+pub returns-then-is_free : goal.returns-then-is_free
+returns-then-is_free c = search free_fails
 
-returns : tie.Need-returns
-returns c = search free_fails
+pub returns-then-t-arrival : goal.returns-then-t-arrival
+returns-then-t-arrival c = search (used_decides, not_yet) depth 9
 
-arrival-requires : tie.Need-arrival-requires
-arrival-requires c κs = search rules
-
-returns-2 : tie.Need-returns-2
-returns-2 c = search (used_decides, not_yet) depth 9
-
-returns-3 : tie.Need-returns-3
-returns-3 c = search (used_decides, by_arrival) depth 9
-
-pub late-spec : {M : Type 1} → statement M
-late-spec = tie.close (tie.spec is-free-requires returns arrival-requires returns-2 returns-3)
+pub returns : goal.returns
+returns c = search (used_decides, by_arrival) depth 9

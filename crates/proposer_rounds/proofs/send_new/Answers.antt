@@ -6,8 +6,7 @@ use Prim.Native.Nat.{ℕ, ◌≤◌}
 use lib.ListN.{length}
 use Rattle.proposer_works.specs.Sent.{sent_in}
 use borrow.Author.Rules.{rules}
-use Rattle.proposer_rounds.proofs.send_new.Statement.{statement}
-use Rattle.proposer_rounds.proofs.send_new.Tie as tie
+use Rattle.proposer_rounds.proofs.send_new.Goals as goal
 
 fits : (v x : List ℕ) → v ≡ x → length x ≤ 256 → length v ≤ 256
 fits v x e h = rw e h
@@ -18,17 +17,8 @@ told v x e = ap length e
 as_sent : (w w₁ v x k l : List ℕ) → v ≡ x → w₁ ≡ sent_in w v k l → w₁ ≡ sent_in w x k l
 as_sent w w₁ v x k l e h = h ∙ ap (λ (u : List ℕ). sent_in w u k l) e
 
-new-value-requires : tie.Need-new-value-requires
-new-value-requires c κs = search rules
+pub send-requires : goal.send-requires
+send-requires c = (search rules, search fits, search rules, search rules)
 
-send-requires : tie.Need-send-requires
-send-requires c κs = (search rules, search fits, search rules, search rules)
-
-same-length : tie.Need-same-length
-same-length c = search rules
-
-returns : tie.Need-returns
+pub returns : goal.returns
 returns c = (search told, search as_sent)
-
-pub send-new-spec : {M : Type 1} → statement M
-send-new-spec = tie.close (tie.spec new-value-requires send-requires same-length returns)

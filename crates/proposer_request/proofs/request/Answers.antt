@@ -1,0 +1,123 @@
+-- `proposer_request::request` meets its contract: each return is a case of the rules' outcome.
+-- Assumes nothing.
+use mathlib.Core.Path.{◌≡◌, refl, sym}
+use mathlib.Core.Bool.{false}
+use mathlib.Core.List.{List, []}
+use mathlib.Core.Option.{none}
+use Prim.Native.Nat.{ℕ, ◌+◌, ◌-◌, ◌*◌, ◌^◌, ◌≤◌, ◌<◌}
+use lib.ListN.{length, take, drop}
+use Rattle.messages.specs.declared.OptionValue.{OptionValue}
+use Rattle.messages.specs.Message.{request_of}
+use Rattle.proposer_place.specs.declared.front.Phase as Code
+use Rattle.proposer_place.specs.declared.front.Front.{Front}
+use Rattle.proposer_place.specs.Area.{place_image, read_places, read_area}
+use Rattle.proposer_area.specs.Places.{place_in, free_of}
+use Rattle.proposer_area.specs.PlacesLaws.{free_some}
+use Rattle.proposer_area.specs.Held.{Held}
+use Rattle.proposer_area.specs.HeldLaws.{place_room, free_place}
+use Rattle.proposer_request.specs.RequestLaws.{counter_refused, room_refused, request_sizes, request_taken}
+use Rattle.proposer_works.specs.Room.{held_header, propose_few, propose_lent, entries_end, entries_sent}
+use borrow.Author.Rules.{rules}
+use native.Mathlib.Omega.{arith}
+use Rattle.proposer_request.proofs.request.Goals as goal
+use Rattle.proposer_request.proofs.request.Goals.{Start}
+
+-- the lowest free place is free
+free_there : (a : List ℕ) (n i : ℕ) → Held a n → i ≡ free_of (read_places a 80 n) → i < n → place_in a i ≡ place_image none
+unfolding read_area
+free_there a n i held e lt = free_place a n held i lt (free_some (read_places a 80 n) i (sym e) (omega (arith, lt, held.lawful.full))).there
+
+from_fits : (c : Start) → c.args.from.0 < 2 ^ 16
+from_fits c = search rules
+
+pub take_header-h-requires : goal.take_header-h-requires
+take_header-h-requires c = omega (arith, held_header)
+
+pub returns-then-h : goal.returns-then-h
+returns-then-h c =
+    let header = c.take_header-h in
+    let args = c.args in
+    counter_refused args.area.now args.answer.now args.places header.result args.from args.at args.id (request_of args.req args.key.now args.value.now args.other.now) c.requires.0 header.ensures.0 c.if-h.true
+
+pub returns-then-i-places : goal.returns-then-i-places
+returns-then-i-places c =
+    let header = c.take_header-h in
+    let free = c.lowest_free-i in
+    let args = c.args in
+    room_refused args.area.now args.answer.now args.places header.result args.from args.at args.id (request_of args.req args.key.now args.value.now args.other.now) c.requires.0 header.ensures.0 free.result (search rules) c.if-h.false free.ensures.0 c.if-i-places.true
+
+pub slice_bounds-send-end-2 : goal.slice_bounds-send-end-2
+slice_bounds-send-end-2 c = omega (arith, held_header)
+
+pub send-requires : goal.send-requires
+send-requires c =
+    let header = c.take_header-h in
+    let args = c.args in
+    (search rules, search rules, (request_sizes args.from args.id args.req args.key.now args.value.now args.other.now c.requires.2).0, propose_lent args.area.now args.places header.result c.requires.0 header.ensures.0)
+
+pub slice_bounds-fill_place-end : goal.slice_bounds-fill_place-end
+slice_bounds-fill_place-end c =
+    let header = c.take_header-h in
+    let args = c.args in
+    entries_end args.answer.now _ [] args.key.now (take (50 + 2 * header.result.propose - 50) (drop 50 args.area.now)) args.places header.result.propose c.requires.1 c.send.ensures
+    (propose_few args.area.now args.places header.result c.requires.0 header.ensures.0)
+
+pub fill_place-requires : goal.fill_place-requires
+fill_place-requires c =
+    let header = c.take_header-h in
+    let free = c.lowest_free-i in
+    let first = c.first_value-first in
+    let second = c.second_value-second in
+    let args = c.args in
+    let within : free.result < args.places = omega (arith, free.ensures.1, c.if-i-places.false) in
+    let sizes = request_sizes args.from args.id args.req args.key.now args.value.now args.other.now c.requires.2 in
+    let few = propose_few args.area.now args.places header.result c.requires.0 header.ensures.0 in
+    let first-size : length first.result.now ≤ 256 = rw (first.ensures args.key.now args.other.now) sizes.1 in
+    let second-size : length second.result.now ≤ 256 = rw (second.ensures args.key.now args.value.now) sizes.2 in
+    let waited = entries_sent args.answer.now _ [] args.key.now (take (50 + 2 * header.result.propose - 50) (drop 50 args.area.now)) args.places header.result.propose c.requires.1 c.send.ensures few in (
+      place_room args.area.now args.places free.result c.requires.0.sized within,
+      free_there args.area.now args.places free.result c.requires.0 free.ensures.0 within,
+      record { key = omega (arith, sizes.0); waited = omega (arith, few); yeses = omega arith; noes = omega arith },
+      omega (arith, waited, few),
+      sizes.0,
+      omega (arith, first-size, second-size),
+    )
+
+pub overflow_add-h : goal.overflow_add-h
+overflow_add-h c = omega (arith, c.if-h.false)
+
+pub put_counter-requires : goal.put_counter-requires
+put_counter-requires c = omega (arith, c.area-1.given, held_header _ _ c.requires.0)
+
+pub returns : goal.returns
+returns c =
+    let header = c.take_header-h in
+    let free = c.lowest_free-i in
+    let first = c.first_value-first in
+    let second = c.second_value-second in
+    let args = c.args in
+    let f : Front = record {
+      phase = Code.Phase.Propose;
+      retried = false;
+      req = args.req;
+      key_len = length args.key.now;
+      first_len = length first.result.now;
+      second_len = length second.result.now;
+      mark = OptionValue.None;
+      value_len = 0;
+      client = args.from;
+      id = args.id;
+      ballot = record { 0 = header.result.counter + 1 };
+      promised = record { 0 = 0 };
+      received_at = args.at;
+      waiting_for = header.result.propose;
+      acks_from = 0;
+      nacks_from = 0;
+    } in
+    request_taken args.area.now args.answer.now args.places header.result args.from args.at args.id args.req args.key.now args.value.now args.other.now c.requires.0 c.requires.1 c.requires.2 header.ensures.0 free.result first.result.now second.result.now f _ _ _ _
+    (λ j. omega (arith, c.type_inv.key j))
+    (λ j. omega (arith, c.type_inv.value j))
+    (λ j. omega (arith, c.type_inv.other j))
+    (from_fits (goal.at.returns c).Start) (search rules) (search rules) (search rules) c.if-h.false free.ensures.0 free.ensures.1 c.if-i-places.false
+    (first.ensures args.key.now args.other.now) (second.ensures args.key.now args.value.now) refl
+    c.send.ensures c.fill_place.ensures c.put_counter.ensures c.broadcast.ensures
