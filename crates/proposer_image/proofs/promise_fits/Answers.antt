@@ -2,10 +2,9 @@
 -- Assumes nothing.
 use mathlib.Core.Path.{◌≡◌, refl, ap, ◌∙◌}
 use mathlib.Core.Bool.{true, not}
-use mathlib.Core.Bool as Booleans
 use mathlib.Core.List.{List}
 use mathlib.Core.Option.{Option, none, some}
-use Prim.Native.Nat.{ℕ, ◌-◌}
+use Prim.Native.Nat.{ℕ}
 use lib.Dec.{eqb}
 use Rattle.messages.specs.declared.Ballot.{Ballot}
 use Rattle.messages.specs.declared.OptionValue.{OptionValue}
@@ -15,9 +14,7 @@ use Rattle.proposer_place.specs.declared.front.Front.{Front}
 use Rattle.proposer_place.specs.Front.{front_of}
 use Rattle.proposer_place.specs.Area.{read_pending, promise_fits}
 use Rattle.proposer_image.specs.Good.{TakenFrom}
-use borrow.Author.Rules.{rules}
-use Rattle.proposer_image.proofs.promise_fits.Statement.{statement}
-use Rattle.proposer_image.proofs.promise_fits.Tie as tie
+use Rattle.proposer_image.proofs.promise_fits.Goals as goal
 
 -- a promise by its mark
 by_mark : (p : Ballot) (v : Option Value) (m : OptionValue) → m ≡ marked v → m ≡ OptionValue.None → true ≡ promise_fits p v
@@ -38,17 +35,8 @@ a_value b f taken h =
     ap (λ (g : Front). not (eqb g.promised.0 0)) taken.front
     ∙ by_ballot (read_pending b).promised (read_pending b).value f.mark (ap (λ (g : Front). g.mark) taken.front) h
 
-enum_told : tie.Need-enum-told
-enum_told c = search rules
+pub returns-in-None : goal.returns-in-None
+returns-in-None c = search no_value
 
-enum-told-2 : tie.Need-enum-told-2
-enum-told-2 c = search rules
-
-returns : tie.Need-returns
-returns c = search no_value
-
-returns-2 : tie.Need-returns-2
-returns-2 c = search a_value
-
-pub promise-fits-spec : {M : Type 1} → statement M
-promise-fits-spec = tie.close (tie.spec enum_told enum-told-2 returns returns-2)
+pub returns-in-Some : goal.returns-in-Some
+returns-in-Some c = search a_value

@@ -11,18 +11,11 @@ use lib.Dec.{eqb}
 use Rattle.leaf_fields.specs.Fields.{byte}
 use Rattle.messages.specs.declared.Ballot.{Ballot}
 use Rattle.proposer_rules.specs.State.{Pending, listed}
-use Rattle.proposer_place.specs.Area.{header_bytes, read_pending, read_place, read_places, ballots_of, distinct}
+use Rattle.proposer_place.specs.Area.{read_pending, read_place, read_places, ballots_of, distinct}
 use Rattle.proposer_area.specs.Places.{place_at, place_in}
-use Rattle.proposer_area.specs.Turns.{lent_place, Sized, sized_of, places_turn, places_past, lent_place_lem, lent_length}
+use Rattle.proposer_area.specs.Turns.{lent_place, sized_of, places_turn, places_past, lent_place_lem, lent_length}
 use borrow.Author.Rules.{rules}
-use Rattle.proposer_image.proofs.ballots_distinct.Statement.{statement}
-use Rattle.proposer_image.proofs.ballots_distinct.Tie as tie
-
-abbrev invariant-loop : tie.invariant-loop
-invariant-loop area places i₀ i = Sized area places × (i ≤ places) × (distinct (ballots_of (read_places area (place_at i) (places - i))) ≡ distinct (ballots_of (read_places area header_bytes places)))
-
-abbrev decreases-loop : tie.decreases-loop
-decreases-loop area places i₀ i = places - i
+use Rattle.proposer_image.proofs.ballots_distinct.Goals as goal
 
 turn_of : (b : List ℕ) (l : List (Option Pending)) → distinct (ballots_of (read_place b ∷ l)) ≡ cond (eqb (byte b 0) 0) (distinct (ballots_of l)) (not (listed (read_pending b).ballot.0 (ballots_of l)) && distinct (ballots_of l))
 unfolding distinct ballots_of read_place
@@ -56,93 +49,23 @@ module _ (a : List ℕ) (n i : ℕ) (o : Bool) (left : distinct (ballots_of (rea
   unfolding distinct ballots_of
   past h = rw (places_past a n i h) at left
 
-loop-holds : tie.Need-loop-init invariant-loop decreases-loop
-loop-holds c = (search sized_of, search rules, simp sub-zero)
+pub loop-i-init : goal.loop-i-init
+loop-i-init c = (search sized_of, search rules, simp sub-zero)
 
-mul_at : tie.Need-overflow-mul-at invariant-loop decreases-loop
-mul_at c = search rules
+pub is_free-requires : goal.is_free-requires
+is_free-requires c = search lent_length
 
-add_at : tie.Need-overflow-add-at invariant-loop decreases-loop
-add_at c = search rules
+pub ballot-requires : goal.ballot-requires
+ballot-requires c = search lent_length
 
-add-i : tie.Need-overflow-add-i invariant-loop decreases-loop
-add-i c = search rules
+pub returns-then-held : goal.returns-then-held
+returns-then-held c = search (twice, not-true, not-false) depth 12
 
-add-is-free : tie.Need-overflow-add-is-free invariant-loop decreases-loop
-add-is-free c = search rules
+pub loop-i-preserved-else-held : goal.loop-i-preserved-else-held
+loop-i-preserved-else-held c = (search rules, search rules, search (next, not-true, not-false) depth 12)
 
-sub-is-free : tie.Need-overflow-sub-is-free invariant-loop decreases-loop
-sub-is-free c = search rules
+pub loop-i-preserved : goal.loop-i-preserved
+loop-i-preserved c = (search rules, search rules, search (skipped, not-true, not-false) depth 9)
 
-part-is-free-start : tie.Need-slice-bounds-is-free-start invariant-loop decreases-loop
-part-is-free-start c = search rules
-
-part-is-free-end : tie.Need-slice-bounds-is-free-end invariant-loop decreases-loop
-part-is-free-end c = search rules
-
-is-free-requires : tie.Need-is-free-requires invariant-loop decreases-loop
-is-free-requires c κs = search lent_length
-
-add-ballot : tie.Need-overflow-add-ballot invariant-loop decreases-loop
-add-ballot c = search rules
-
-sub-ballot : tie.Need-overflow-sub-ballot invariant-loop decreases-loop
-sub-ballot c = search rules
-
-part-ballot-start : tie.Need-slice-bounds-ballot-start invariant-loop decreases-loop
-part-ballot-start c = search rules
-
-part-ballot-end : tie.Need-slice-bounds-ballot-end invariant-loop decreases-loop
-part-ballot-end c = search rules
-
-ballot-requires : tie.Need-ballot-requires invariant-loop decreases-loop
-ballot-requires c κs = search lent_length
-
-held-requires : tie.Need-held-requires invariant-loop decreases-loop
-held-requires c κs = search rules
-
-returns : tie.Need-returns invariant-loop decreases-loop
-returns c = search (twice, not-true, not-false) depth 12
-
-loop-less : tie.Need-loop-smaller invariant-loop decreases-loop
-loop-less c = search rules
-
-loop-again : tie.Need-loop-preserved invariant-loop decreases-loop
-loop-again c = (search rules, search rules, search (next, not-true, not-false) depth 12)
-
-loop-less-2 : tie.Need-loop-smaller-2 invariant-loop decreases-loop
-loop-less-2 c = search rules
-
-loop-again-2 : tie.Need-loop-preserved-2 invariant-loop decreases-loop
-loop-again-2 c = (search rules, search rules, search (skipped, not-true, not-false) depth 9)
-
-returns-2 : tie.Need-returns-2 invariant-loop decreases-loop
-returns-2 c = search past
-
-pub ballots-distinct-spec : {M : Type 1} → statement M
-ballots-distinct-spec =
-    tie.close
-    (tie.spec
-    invariant-loop
-    decreases-loop
-    loop-holds
-    mul_at
-    add_at
-    add-i
-    add-is-free
-    sub-is-free
-    part-is-free-start
-    part-is-free-end
-    is-free-requires
-    add-ballot
-    sub-ballot
-    part-ballot-start
-    part-ballot-end
-    ballot-requires
-    held-requires
-    returns
-    loop-less
-    loop-again
-    loop-less-2
-    loop-again-2
-    returns-2)
+pub returns : goal.returns
+returns c = search past

@@ -4,7 +4,7 @@ use mathlib.Core.Path.{◌≡◌}
 use mathlib.Core.Bool.{Bool, false, ◌&&◌}
 use mathlib.Core.Bool as Booleans
 use mathlib.Core.List.{List}
-use Prim.Native.Nat.{ℕ, ◌+◌, ◌-◌, ◌*◌, ◌≤◌, ◌<◌}
+use Prim.Native.Nat.{ℕ, ◌+◌, ◌*◌, ◌≤◌, ◌<◌}
 use borrow.Author.Tests.{ne_eqb, le-leb, lt-leb}
 use lib.Dec.{leb}
 use lib.ListN.{length}
@@ -15,8 +15,7 @@ use Rattle.proposer_place.specs.Area.{read_pending, sizes_fit}
 use Rattle.proposer_image.specs.Good.{TakenFrom}
 use Rattle.proposer_image.specs.Taken.{sizes_taken}
 use native.Mathlib.Omega.{arith}
-use Rattle.proposer_image.proofs.sizes_fit.Statement.{statement}
-use Rattle.proposer_image.proofs.sizes_fit.Tie as tie
+use Rattle.proposer_image.proofs.sizes_fit.Goals as goal
 
 module _ (b : List ℕ) (f : Front) (taken : TakenFrom b f) where
   no_client : f.client.0 ≡ 0 → false ≡ sizes_fit (read_pending b)
@@ -62,43 +61,29 @@ module _ (b : List ℕ) (f : Front) (taken : TakenFrom b f) where
   room : f.waiting_for ≤ 15 → 52 + 2 * f.waiting_for ≤ length b
   room l = let size = taken.sized in omega arith
 
-returns : tie.Need-returns
-returns c = search no_client
+pub returns-then-f-eq0 : goal.returns-then-f-eq0
+returns-then-f-eq0 c = search no_client
 
-returns-2 : tie.Need-returns-2
-returns-2 c = search long_key
+pub returns-then-f-gt-KEY_MOST : goal.returns-then-f-gt-KEY_MOST
+returns-then-f-gt-KEY_MOST c = search long_key
 
-returns-3 : tie.Need-returns-3
-returns-3 c = search long_first depth 9
+pub returns-then-f-gt-VALUE_MOST : goal.returns-then-f-gt-VALUE_MOST
+returns-then-f-gt-VALUE_MOST c = search long_first depth 9
 
-returns-4 : tie.Need-returns-4
-returns-4 c = search long_second depth 9
+pub returns-then-f-gt-VALUE_MOST-2 : goal.returns-then-f-gt-VALUE_MOST-2
+returns-then-f-gt-VALUE_MOST-2 c = search long_second depth 9
 
-returns-5 : tie.Need-returns-5
-returns-5 c = search many_waited depth 9
+pub returns-then-f-gt-LIST_MOST : goal.returns-then-f-gt-LIST_MOST
+returns-then-f-gt-LIST_MOST c = search many_waited depth 9
 
-returns-6 : tie.Need-returns-6
-returns-6 c = search many_yeses depth 12
+pub returns-then-f-gt-LIST_MOST-2 : goal.returns-then-f-gt-LIST_MOST-2
+returns-then-f-gt-LIST_MOST-2 c = search many_yeses depth 12
 
-returns-7 : tie.Need-returns-7
-returns-7 c = search many_noes depth 12
+pub returns-then-f-gt-LIST_MOST-3 : goal.returns-then-f-gt-LIST_MOST-3
+returns-then-f-gt-LIST_MOST-3 c = search many_noes depth 12
 
-none-zero-requires : tie.Need-none-zero-requires
-none-zero-requires c κs = search room
+pub none_zero-requires : goal.none_zero-requires
+none_zero-requires c = search room
 
-returns-8 : tie.Need-returns-8
-returns-8 c = search by_entries depth 14
-
-pub sizes-fit-spec : {M : Type 1} → statement M
-sizes-fit-spec =
-    tie.close
-    (tie.spec
-    returns
-    returns-2
-    returns-3
-    returns-4
-    returns-5
-    returns-6
-    returns-7
-    none-zero-requires
-    returns-8)
+pub returns : goal.returns
+returns c = search by_entries depth 14

@@ -2,9 +2,8 @@
 -- Assumes nothing.
 use mathlib.Core.Path.{◌≡◌, ap}
 use mathlib.Core.Bool.{Bool, true, false, not, ◌&&◌}
-use mathlib.Core.Bool as Booleans
 use mathlib.Core.List.{List}
-use Prim.Native.Nat.{ℕ, ◌-◌, ◌≤◌}
+use Prim.Native.Nat.{ℕ, ◌≤◌}
 use borrow.Author.Tests.{not-true, not-false}
 use lib.ListN.{length}
 use Rattle.proposer_place.specs.Area.{read_places, ballots_of, sized, distinct, long_at, is_image}
@@ -14,10 +13,9 @@ use Rattle.proposer_image.specs.Good.{header_good, places_good}
 use Rattle.leaf_fields.specs.Fields.{Bytes}
 use Rattle.proposer_area.specs.Turns.{sized_of}
 use Rattle.proposer_image.specs.GoodLaws.{image_parts}
-use borrow.Author.Rules.{rules}
 use native.Mathlib.Omega.{arith}
-use Rattle.proposer_image.proofs.is_image.Statement.{statement}
-use Rattle.proposer_image.proofs.is_image.Tie as tie
+use Rattle.proposer_image.proofs.is_image.Goals as goal
+use Rattle.proposer_image.proofs.is_image.Goals.{After-shared_slice_known-1}
 
 header_room : (a : List ℕ) (n : ℕ) → sized a n ≡ true → 80 ≤ length a
 header_room a n h = omega (arith, sized_of a n h)
@@ -39,39 +37,21 @@ module _ (a : List ℕ) (n : ℕ) (bytes : Bytes a) (size : sized a n ≡ true) 
     by_ballots u ts eu = rw (by_places, not-false s ts) eu
 
 -- the bytes of a slice are bytes
-area_bytes : (c : tie.After-shared-slice-known) → Bytes c.before.args.area.now
+area_bytes : (c : After-shared_slice_known-1) → Bytes c.args.area.now
 unfolding Bytes
-area_bytes c = λ i. (c.shared-slice-known.given i).fits
+area_bytes c = λ i. (c.type_inv.area i).fits
 
-header-good-requires : tie.Need-header-good-requires
-header-good-requires c κs = search header_room
+pub header_good-requires : goal.header_good-requires
+header_good-requires c = search header_room
 
-returns : tie.Need-returns
-returns c = search (other_header, area_bytes c.before.before) depth 12
+pub returns-then-not-header_good : goal.returns-then-not-header_good
+returns-then-not-header_good c = search (other_header, area_bytes (goal.at.returns-then-not-header_good c).After-shared_slice_known-1) depth 12
 
-take-header-requires : tie.Need-take-header-requires
-take-header-requires c κs = search header_room
+pub take_header-h-requires : goal.take_header-h-requires
+take_header-h-requires c = search header_room
 
-places-good-requires : tie.Need-places-good-requires
-places-good-requires c κs = search rules
+pub returns-then-not-places_good : goal.returns-then-not-places_good
+returns-then-not-places_good c = search (other_places, area_bytes (goal.at.returns-then-not-places_good c).After-shared_slice_known-1) depth 16
 
-returns-2 : tie.Need-returns-2
-returns-2 c = search (other_places, area_bytes c.before.before.before.before.before) depth 16
-
-ballots-distinct-requires : tie.Need-ballots-distinct-requires
-ballots-distinct-requires c κs = search rules
-
-returns-3 : tie.Need-returns-3
-returns-3 c = search (by_ballots, area_bytes c.before.before.before.before.before.before) depth 16
-
-pub is-image-spec : {M : Type 1} → statement M
-is-image-spec =
-    tie.close
-    (tie.spec
-    header-good-requires
-    returns
-    take-header-requires
-    places-good-requires
-    returns-2
-    ballots-distinct-requires
-    returns-3)
+pub returns : goal.returns
+returns c = search (by_ballots, area_bytes (goal.at.returns c).After-shared_slice_known-1) depth 16

@@ -2,9 +2,8 @@
 -- Assumes nothing.
 use mathlib.Core.Path.{◌≡◌}
 use mathlib.Core.Bool.{Bool, true, false}
-use mathlib.Core.Bool as Booleans
 use mathlib.Core.List.{List}
-use Prim.Native.Nat.{ℕ, ◌+◌, ◌-◌, ◌*◌, ◌≤◌}
+use Prim.Native.Nat.{ℕ, ◌+◌, ◌*◌, ◌≤◌}
 use borrow.Author.Tests.{not-true, not-false}
 use lib.ListN.{length}
 use Rattle.messages.specs.Answers.{entries}
@@ -13,8 +12,7 @@ use Rattle.proposer_place.specs.Area.{read_pending, sizes_fit, answers_fit, dist
 use Rattle.proposer_image.specs.Good.{TakenFrom, each_listed}
 use Rattle.proposer_image.specs.Taken.{answers_taken, short_taken}
 use native.Mathlib.Omega.{arith}
-use Rattle.proposer_image.proofs.answers_fit.Statement.{statement}
-use Rattle.proposer_image.proofs.answers_fit.Tie as tie
+use Rattle.proposer_image.proofs.answers_fit.Goals as goal
 
 -- each list is in the place
 module _ (b : List ℕ) (f : Front) (taken : TakenFrom b f) (fit : sizes_fit (read_pending b) ≡ true) where
@@ -46,47 +44,32 @@ module _ (b : List ℕ) (f : Front) (taken : TakenFrom b f) where
         by_both : (v w : Bool) → v ≡ distinct (entries b 112 f.nacks_from) → v ≡ true → w ≡ each_listed false (entries b 82 f.acks_from) (entries b 112 f.nacks_from) → w ≡ answers_fit (read_pending b)
         by_both v w e t ew = rw (answers_taken b f taken, ← er, tr, ← es, ts, ← eu, tu, ← e, t, ← ew)
 
-each-listed-requires : tie.Need-each-listed-requires
-each-listed-requires c κs = (search yes_room, search waited_room)
+pub each_listed-requires : goal.each_listed-requires
+each_listed-requires c = (search yes_room, search waited_room)
 
-returns : tie.Need-returns
-returns c = search (yes_unlisted, not-true, not-false) depth 9
+pub returns-then-not-each_listed : goal.returns-then-not-each_listed
+returns-then-not-each_listed c = search (yes_unlisted, not-true, not-false) depth 9
 
-each-listed-requires-2 : tie.Need-each-listed-requires-2
-each-listed-requires-2 c κs = (search no_room, search waited_room)
+pub each_listed-requires-2 : goal.each_listed-requires-2
+each_listed-requires-2 c = (search no_room, search waited_room)
 
-returns-2 : tie.Need-returns-2
-returns-2 c = search (no_unlisted, not-true, not-false) depth 12
+pub returns-then-not-each_listed-2 : goal.returns-then-not-each_listed-2
+returns-then-not-each_listed-2 c = search (no_unlisted, not-true, not-false) depth 12
 
-distinct-requires : tie.Need-distinct-requires
-distinct-requires c κs = search yes_room
+pub distinct-requires : goal.distinct-requires
+distinct-requires c = search yes_room
 
-returns-3 : tie.Need-returns-3
-returns-3 c = search (yes_twice, not-true, not-false) depth 14
+pub returns-then-not-distinct : goal.returns-then-not-distinct
+returns-then-not-distinct c = search (yes_twice, not-true, not-false) depth 14
 
-distinct-requires-2 : tie.Need-distinct-requires-2
-distinct-requires-2 c κs = search no_room
+pub distinct-requires-2 : goal.distinct-requires-2
+distinct-requires-2 c = search no_room
 
-returns-4 : tie.Need-returns-4
-returns-4 c = search (no_twice, not-true, not-false) depth 16
+pub returns-then-not-distinct-2 : goal.returns-then-not-distinct-2
+returns-then-not-distinct-2 c = search (no_twice, not-true, not-false) depth 16
 
-each-listed-requires-3 : tie.Need-each-listed-requires-3
-each-listed-requires-3 c κs = (search yes_room, search no_room)
+pub each_listed-requires-3 : goal.each_listed-requires-3
+each_listed-requires-3 c = (search yes_room, search no_room)
 
-returns-5 : tie.Need-returns-5
-returns-5 c = search (by_both, not-true, not-false) depth 18
-
-pub answers-fit-spec : {M : Type 1} → statement M
-answers-fit-spec =
-    tie.close
-    (tie.spec
-    each-listed-requires
-    returns
-    each-listed-requires-2
-    returns-2
-    distinct-requires
-    returns-3
-    distinct-requires-2
-    returns-4
-    each-listed-requires-3
-    returns-5)
+pub returns : goal.returns
+returns c = search (by_both, not-true, not-false) depth 18

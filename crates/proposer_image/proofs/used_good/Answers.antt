@@ -2,21 +2,18 @@
 -- Assumes nothing.
 use mathlib.Core.Path.{◌≡◌, sym, ap, ◌∙◌}
 use mathlib.Core.Bool.{Bool, true, false, ◌&&◌}
-use mathlib.Core.Bool as Booleans
 use mathlib.Core.List.{List}
 use mathlib.Core.Option.{some}
-use Prim.Native.Nat.{ℕ, ◌+◌, ◌-◌, ◌≤◌, ◌<◌}
+use Prim.Native.Nat.{ℕ, ◌+◌, ◌≤◌, ◌<◌}
 use borrow.Author.Tests.{le-leb, lt-leb, not-true, not-false}
 use lib.Dec.{leb}
 use lib.ListN.{length}
 use Rattle.proposer_place.specs.declared.front.Front.{Front}
 use Rattle.proposer_place.specs.Front.{front_of, Small}
-use Rattle.proposer_place.specs.Area.{read_pending, sized, promise_fits, sizes_fit, answers_fit, place_image}
+use Rattle.proposer_place.specs.Area.{read_pending, promise_fits, sizes_fit, answers_fit, place_image}
 use Rattle.proposer_image.specs.Good.{TakenFrom, used_good}
 use Rattle.leaf_fields.specs.Fields.{same}
-use borrow.Author.Rules.{rules}
-use Rattle.proposer_image.proofs.used_good.Statement.{statement}
-use Rattle.proposer_image.proofs.used_good.Tie as tie
+use Rattle.proposer_image.proofs.used_good.Goals as goal
 
 -- what is taken out of a place is taken from it
 taken_from : (b : List ℕ) (f : Front) → length b ≡ 976 → (f ≡ front_of (read_pending b)) × (Small f) × (f.first_len + f.second_len ≤ 768) × (f.value_len ≤ 256) → TakenFrom b f
@@ -62,51 +59,32 @@ module _ (b : List ℕ) (c : ℕ) (r : Bool) (er : r ≡ sizes_fit (read_pending
               let same_ballot : f.ballot ≡ (read_pending b).ballot = ap (λ (g : Front). g.ballot) ef in
               rw (by_ballot, ← same_ballot, le-leb 1 f.ballot.0 h)
 
-take-requires : tie.Need-take-requires
-take-requires c κs = search rules
+pub sizes_fit-requires : goal.sizes_fit-requires
+sizes_fit-requires c = search taken_from
 
-sizes-fit-requires : tie.Need-sizes-fit-requires
-sizes-fit-requires c κs = search taken_from
+pub returns-then-not-sizes_fit : goal.returns-then-not-sizes_fit
+returns-then-not-sizes_fit c = search (no_size, not-true, not-false) depth 9
 
-returns : tie.Need-returns
-returns c = search (no_size, not-true, not-false) depth 9
+pub same_again-requires : goal.same_again-requires
+same_again-requires c = (search taken_from, search (sizes_by, not-false))
 
-same-again-requires : tie.Need-same-again-requires
-same-again-requires c κs = (search taken_from, search (sizes_by, not-false))
+pub returns-then-not-same_again : goal.returns-then-not-same_again
+returns-then-not-same_again c = search (other_bytes, not-true, not-false) depth 12
 
-returns-2 : tie.Need-returns-2
-returns-2 c = search (other_bytes, not-true, not-false) depth 12
+pub answers_fit-requires : goal.answers_fit-requires
+answers_fit-requires c = (search taken_from, search (sizes_by, not-false))
 
-answers-fit-requires : tie.Need-answers-fit-requires
-answers-fit-requires c κs = (search taken_from, search (sizes_by, not-false))
+pub returns-then-not-answers_fit : goal.returns-then-not-answers_fit
+returns-then-not-answers_fit c = search (no_answers, not-true, not-false) depth 14
 
-returns-3 : tie.Need-returns-3
-returns-3 c = search (no_answers, not-true, not-false) depth 14
+pub promise_fits-requires : goal.promise_fits-requires
+promise_fits-requires c = search taken_from
 
-promise-fits-requires : tie.Need-promise-fits-requires
-promise-fits-requires c κs = search taken_from
+pub returns-then-not-promise_fits : goal.returns-then-not-promise_fits
+returns-then-not-promise_fits c = search (no_promise, not-true, not-false) depth 16
 
-returns-4 : tie.Need-returns-4
-returns-4 c = search (no_promise, not-true, not-false) depth 16
+pub returns-then-f-lt1 : goal.returns-then-f-lt1
+returns-then-f-lt1 c = search (low_ballot, not-true, not-false) depth 18
 
-returns-5 : tie.Need-returns-5
-returns-5 c = search (low_ballot, not-true, not-false) depth 18
-
-returns-6 : tie.Need-returns-6
-returns-6 c = search (within_counter, not-true, not-false) depth 18
-
-pub used-good-spec : {M : Type 1} → statement M
-used-good-spec =
-    tie.close
-    (tie.spec
-    take-requires
-    sizes-fit-requires
-    returns
-    same-again-requires
-    returns-2
-    answers-fit-requires
-    returns-3
-    promise-fits-requires
-    returns-4
-    returns-5
-    returns-6)
+pub returns : goal.returns
+returns c = search (within_counter, not-true, not-false) depth 18
