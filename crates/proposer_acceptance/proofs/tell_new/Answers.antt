@@ -6,9 +6,7 @@ use Prim.Native.Nat.{ℕ, ◌+◌, ◌≤◌}
 use native.Mathlib.Omega.{arith}
 use lib.ListN.{length}
 use lib.Seq.{sets}
-use borrow.Author.Rules.{rules}
-use Rattle.proposer_acceptance.proofs.tell_new.Statement.{statement}
-use Rattle.proposer_acceptance.proofs.tell_new.Tie as tie
+use Rattle.proposer_acceptance.proofs.tell_new.Goals as goal
 
 fits : (w v x : List ℕ) → v ≡ x → 256 ≤ length w → length x ≤ 256 → 0 + length v ≤ length w
 fits w v x e room short = rw e (omega (arith, room, short))
@@ -19,17 +17,8 @@ told v x e = ap length e
 stored : (w w₁ v x : List ℕ) → v ≡ x → w₁ ≡ sets w 0 v → w₁ ≡ sets w 0 x
 stored w w₁ v x e h = h ∙ ap (sets w 0) e
 
-new-value-requires : tie.Need-new-value-requires
-new-value-requires c κs = search rules
+pub copy-requires : goal.copy-requires
+copy-requires c = search fits
 
-copy-requires : tie.Need-copy-requires
-copy-requires c κs = search fits
-
-same-length : tie.Need-same-length
-same-length c = search rules
-
-returns : tie.Need-returns
+pub returns : goal.returns
 returns c = (search told, search stored)
-
-pub tell-new-spec : {M : Type 1} → statement M
-tell-new-spec = tie.close (tie.spec new-value-requires copy-requires same-length returns)
