@@ -1,7 +1,7 @@
 -- Laws that the acceptor's functions share.
 -- Assumes nothing.
 use Rattle.std.specs.Prelude.{◌≡◌, refl, Bool, true, false, cond, List, ℕ, ◌+◌, ◌-◌, ◌*◌}
-use borrow.Rule.Slice.PartMut.{put_mid}
+use borrow.Rule.Slice.PartMut as part
 use Rattle.messages.specs.declared.Address.{Address}
 use Rattle.messages.specs.declared.answer.Answer.{Answer}
 use Rattle.messages.specs.declared.answer.Refusal.{Refusal}
@@ -19,7 +19,7 @@ pub refused_placed : (w : Work) (from : Address) (t : List ℕ) (i : ℕ) (fits 
 refused_placed w from t i fits f = record { answer = rw f; table = rw f }
 
 -- what a work on the lent block is for the table
-pub work_placed : (w : Work) (from : Address) (t ys : List ℕ) (i : ℕ) (fits : Bool) (r : Answer) → fits ≡ true → Worked w from (block_at t i) r ys → Placed w fits from t i r (put_mid (i * 512) (i * 512 + 512 - i * 512) t ys)
+pub work_placed : (w : Work) (from : Address) (t ys : List ℕ) (i : ℕ) (fits : Bool) (r : Answer) → fits ≡ true → Worked w from (block_at t i) r ys → Placed w fits from t i r (part.put_mid (i * 512) (i * 512 + 512 - i * 512) t ys)
 work_placed w from t ys i fits r f h = record { answer = rw f h.answer; table = rw (f, put_mid, h.block) (by w.stores) }
   where
     by : (s : Bool) → with_block t i (cond s (image w.next) (block_at t i)) ≡ cond s (with_block t i (image w.next)) t

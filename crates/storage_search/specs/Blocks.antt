@@ -5,7 +5,7 @@ use Rattle.std.proofs.Common.{sym, ◌∙◌, zero-add, suc-add, eqb-true, leb-t
 use Rattle.std.proofs.Math.Path.{ap}
 use native.Mathlib.Omega.{arith}
 use Rattle.std.proofs.Math.Decide.{dec_lt}
-use borrow.Rule.Slice.PartMut.{put_mid}
+use borrow.Rule.Slice.PartMut as part
 use Rattle.std.proofs.Math.ListN.{length, take, drop, length-take}
 use Rattle.std.proofs.Math.Seq.{take-nil, drop-nil, take_at, take-take, drop-drop, drop-append-add}
 use Rattle.std.proofs.lemmas.List.{take-append-le, drop-append-le}
@@ -43,7 +43,7 @@ lent_block t i =
     let e : i * 512 + 512 - i * 512 ≡ 512 = omega arith in
     rw e
 
-pub put_mid : (t : List ℕ) (i : ℕ) (ys : List ℕ) → put_mid (i * 512) (i * 512 + 512 - i * 512) t ys ≡ with_block t i ys
+pub put_mid : (t : List ℕ) (i : ℕ) (ys : List ℕ) → part.put_mid (i * 512) (i * 512 + 512 - i * 512) t ys ≡ with_block t i ys
 unfolding with_block
 put_mid t i ys =
     let e : i * 512 + 512 - i * 512 ≡ 512 = omega arith in

@@ -1,0 +1,70 @@
+-- `storage_write::write` meets its contract: the front, the key and the value, stored into zeros one after the other, are the body, which is then sealed.
+-- Assumes nothing.
+use mathlib.Core.Path.{◌≡◌, refl, ap, ◌∙◌}
+use mathlib.Core.List.{List, ◌++◌, append_assoc}
+use Prim.Native.Nat.{ℕ, ◌-◌, ◌≤◌}
+use borrow.Rule.Slice.PartMut.{put_mid}
+use lib.ListN.{length, take, drop, replicate, length-append, length-replicate}
+use lib.Seq.{sets, take_at}
+use Rattle.leaf_fields.specs.Stores.{sets_left, sets_right, sets_zeros}
+use Rattle.messages.specs.Message.{given}
+use Rattle.messages.specs.Fit.{marked-given}
+use Rattle.messages.specs.Answers.{bytes_of}
+use Rattle.messages.specs.declared.Ballot.{Ballot}
+use Rattle.messages.specs.declared.OptionValue.{OptionValue}
+use Rattle.leaf_fields.specs.Fields.{to_le, padded}
+use Rattle.storage_block.specs.Block.{front, body, sealed, image, register}
+use borrow.Author.Rules.{rules}
+use native.Mathlib.Omega.{arith}
+use Rattle.storage_write.proofs.write.Goals as goal
+
+lent_zeros : (b n : List ℕ) → length b ≡ 512 → n ≡ replicate (length b) 0 → take (24 - 0) (drop 0 n) ≡ replicate 24 0
+lent_zeros b n l e = rw (e, l)
+
+short : (s t : List ℕ) → s ≡ t → length t ≤ 256 → length s ≤ 256
+short s t e h = rw e h
+
+-- the key and the value, stored behind a front of 24 bytes into zeros
+filled : (f key v : List ℕ) → length f ≡ 24 → length key ≤ 64 → length v ≤ 256 → take 504 (sets (sets (f ++ replicate 488 0) 24 key) 88 v) ≡ f ++ (padded 64 key ++ padded 416 v)
+unfolding padded
+filled f key v lf hk hv =
+    let key-room : List ℕ = replicate 64 0 in
+    let value_room : List ℕ = replicate 416 0 in
+    let tail : List ℕ = replicate 8 0 in
+    let pk = padded 64 key in
+    let pv = padded 416 v in
+    let lpk : length pk ≡ 64 = simp (length-append, length-replicate) (omega arith) in
+    let lpv : length pv ≡ 416 = simp (length-append, length-replicate) (omega arith) in
+    let keyed : sets (f ++ replicate 488 0) 24 key ≡ f ++ (pk ++ (value_room ++ tail)) =
+    sets_right f (key-room ++ (value_room ++ tail)) key 24 0 (omega arith)
+    ∙ ap (λ (r : List ℕ). f ++ r) (sets_left key-room (value_room ++ tail) key 0 (omega arith) ∙ ap (λ (r : List ℕ). r ++ (value_room ++ tail)) (sets_zeros 64 key hk)) in
+    let valued : sets (f ++ (pk ++ (value_room ++ tail))) 88 v ≡ f ++ (pk ++ (pv ++ tail)) =
+    sets_right f (pk ++ (value_room ++ tail)) v 88 64 (omega arith)
+    ∙ ap (λ (r : List ℕ). f ++ r) (sets_right pk (value_room ++ tail) v 64 0 (omega arith)
+    ∙ ap (λ (r : List ℕ). pk ++ r) (sets_left value_room tail v 0 (omega arith) ∙ ap (λ (r : List ℕ). r ++ tail) (sets_zeros 416 v (omega arith)))) in
+    let shape : f ++ (pk ++ (pv ++ tail)) ≡ (f ++ (pk ++ pv)) ++ tail = simp append_assoc in
+    let long : length (f ++ (pk ++ pv)) ≡ 504 = omega (arith, length-append f (pk ++ pv), length-append pk pv) in
+    ap (λ (r : List ℕ). take 504 (sets r 88 v)) keyed ∙ ap (take 504) (valued ∙ shape) ∙ take_at (f ++ (pk ++ pv)) tail 504 long
+
+length_front : (k len : ℕ) (seen accepted : Ballot) (value : OptionValue) → length (front k seen accepted value len) ≡ 24
+unfolding front to_le
+length_front k len seen accepted value = refl
+
+written : (b n₀ f n₃ n₄ n₅ key s bytes : List ℕ) (seen accepted : Ballot) (value : OptionValue) → length b ≡ 512 → n₀ ≡ replicate (length b) 0 → s ≡ bytes_of (given value bytes) → f ≡ front (length key) seen accepted value (length s) → n₃ ≡ sets (put_mid 0 (24 - 0) n₀ f) 24 key → n₄ ≡ sets n₃ 88 s → n₅ ≡ sealed (take 504 n₄) → length key ≤ 64 → length (bytes_of (given value bytes)) ≤ 256 → n₅ ≡ image (register key seen accepted (given value bytes))
+unfolding image body
+written b n₀ f n₃ n₄ n₅ key s bytes seen accepted value l e₀ es ef e₃ e₄ e₅ hk hv =
+    let lf : length f ≡ 24 = ap length ef ∙ length_front (length key) (length s) seen accepted value in
+    let zeros : n₀ ≡ replicate 512 0 = e₀ ∙ ap (λ (n : ℕ). replicate n 0) l in
+    let placed : put_mid 0 (24 - 0) n₀ f ≡ f ++ replicate 488 0 = ap (λ (r : List ℕ). put_mid 0 24 r f) zeros in
+    let whole : take 504 n₄ ≡ f ++ (padded 64 key ++ padded 416 s) =
+    ap (take 504) (e₄ ∙ ap (λ (r : List ℕ). sets r 88 s) (e₃ ∙ ap (λ (r : List ℕ). sets r 24 key) placed)) ∙ filled f key s lf hk (short s (bytes_of (given value bytes)) es hv) in
+    e₅ ∙ ap sealed (whole ∙ rw (marked-given value bytes, ef, es))
+
+pub write_front-requires : goal.write_front-requires
+write_front-requires c = (search lent_zeros, search rules, search short)
+
+pub copy-requires-2 : goal.copy-requires-2
+copy-requires-2 c = omega (arith, short _ _ c.present-stored.ensures c.requires.2)
+
+pub returns : goal.returns
+returns c = search written depth 12
