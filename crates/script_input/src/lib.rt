@@ -1,8 +1,10 @@
-// Standard input, line by line: a window on a buffer, which is filled as the lines are used up.
+// A script's input, line by line: a window on a buffer, which is filled as the lines are used up.
 #![tactic(auto)]
 
 ghost use Rattle.std.specs.Prelude.{◌≡◌, ◌≤◌, ◌+◌, min, length};
 ghost use Rattle.script_input.specs.Shown.{Shows};
+
+use std::io::Read;
 
 // The line from `from` to `end`; what was read reaches to `to`. Where `end` is `to` the line has no line end: it is the input's last, or
 // longer than the buffer.
@@ -26,25 +28,25 @@ fn shift(buf: &mut [u8], from: usize, to: usize)
     }
 }
 
-// One read behind what is there; how far it reaches then.
-fn read_on(buf: &mut [u8], to: usize) -> usize
+// One read behind what is there; how far it reaches then. A read that fails brings nothing, as at the input's end.
+fn read_on<R: Read>(input: &mut R, buf: &mut [u8], to: usize) -> usize
     requires { to ≤ length buf.old }
     ensures { (to ≤ result) × (result ≤ length buf.new) }
 {
-    let rest = &mut buf[to..];
-    let got = libc::read(libc::STDIN_FILENO, rest);
-    let n = io::count(got, rest);
-    to + n
+    match input.read(&mut buf[to..]) {
+        Ok(n) => to + n,
+        Err(_) => to,
+    }
 }
 
 // The line that begins at the front, of which nothing up to `to` is a line end.
-fn long_line(buf: &mut [u8], to: usize) -> Window
+fn long_line<R: Read>(input: &mut R, buf: &mut [u8], to: usize) -> Window
     requires { to ≤ length buf.old }
     ensures { Shows result buf.new }
 {
     let mut n = to;
     while n < buf.len() {
-        let more = read_on(buf, n);
+        let more = read_on(input, buf, n);
         if more == n {
             return Window {
                 from: 0,
@@ -70,21 +72,21 @@ fn long_line(buf: &mut [u8], to: usize) -> Window
 }
 
 // The next line, where what is between two places is not used up. Places that are no part of the buffer count as none.
-pub fn next_line(buf: &mut [u8], from: usize, to: usize) -> Window
+pub fn next_line<R: Read>(input: &mut R, buf: &mut [u8], from: usize, to: usize) -> Window
     ensures { Shows result buf.new }
 {
     if buf.len() < to {
-        return long_line(buf, 0);
+        return long_line(input, buf, 0);
     }
     if to < from {
-        return long_line(buf, 0);
+        return long_line(input, buf, 0);
     }
     let end = script_words::place_of(&buf[0..to], from, b'\n');
     if end < to {
         return Window { from, end, to };
     }
     shift(buf, from, to);
-    long_line(buf, to - from)
+    long_line(input, buf, to - from)
 }
 
 // Where the next line begins, behind a line end or at the end.

@@ -1,0 +1,10 @@
+-- `script_input::shift` meets its contract. The loop's invariant: the buffer's length stays.
+-- Assumes nothing.
+use Rattle.std.proofs.Common.{◌-◌, ◌≡◌, length}
+use Rattle.script_input.proofs.shift.Given as goal
+
+abbrev pub invariant-loop-i : goal.invariant-loop-i
+invariant-loop-i l = length l.buf ≡ length l.initial.buf
+
+abbrev pub decreases-loop-i : goal.decreases-loop-i
+decreases-loop-i l = l.n - l.i
