@@ -5,18 +5,10 @@ use Prim.Native.Nat.{ℕ}
 use Rattle.message_numbers.specs.declared.head.Head.{Head}
 use Rattle.messages.specs.declared.OptionValue.{OptionValue}
 use Rattle.message_numbers.specs.Heads.{mark_number, carrying}
-use borrow.Author.Rules.{rules}
-use Rattle.message_numbers.proofs.head.carrying.Statement.{statement}
-use Rattle.message_numbers.proofs.head.carrying.Tie as tie
+use Rattle.message_numbers.proofs.head.carrying.Goals as goal
 
 marked : (k n a x : ℕ) (o : OptionValue) (r : Head) → x ≡ mark_number o → r ≡ record { kind = k; number = n; request = 0; value = x; other = 0; accepted = a; result = 0; last = 0 } → r ≡ carrying k n a o
 marked k n a x o r e f = rw (f, e)
 
-mark-number-requires : tie.Need-mark-number-requires
-mark-number-requires c κs = search rules
-
-returns : tie.Need-returns
+pub returns : goal.returns
 returns c = search marked
-
-pub carrying-spec : {M : Type 1} → statement M
-carrying-spec = tie.close (tie.spec mark-number-requires returns)
