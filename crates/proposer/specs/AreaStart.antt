@@ -1,11 +1,12 @@
 -- The start state: its image is an image, and it is read back as the start state.
 -- Assumes nothing.
-use Rattle.std.specs.Prelude.{◌≡◌, refl, true, List, [], ℕ, zero, suc, ◌^◌, ◌≤◌, ◌<◌, length}
+use Rattle.std.specs.Prelude.{◌≡◌, refl, true, List, [], ℕ, zero, suc, ◌^◌, ◌≤◌, ◌<◌, length, get_or}
 use Rattle.std.proofs.Common.{ap, lit<}
 use Rattle.messages.specs.Limits.{pending_most, list_fits}
 use Rattle.proposer_rules.specs.Rules.{empty_places, start}
 use Rattle.proposer_place.specs.Area.{area_image, read_area, distinct, places_fit, ballots_of, may_be_lent, is_image}
-use Rattle.proposer_place.specs.AreaLaws.{ShortList, LawfulPlaces, LawfulState, read_written, image_is}
+use Rattle.std.proofs.Math.Option.{none}
+use Rattle.proposer_place.specs.AreaLaws.{ShortList, LawfulPlace, LawfulPlaces, LawfulState, read_written, image_is}
 
 -- "It starts with counter 0, nothing pending and one given list as both lists"
 
@@ -17,7 +18,7 @@ length_empty (suc n) = ap suc (length_empty n)
 lawful_empty : (n : ℕ) → LawfulPlaces (empty_places n)
 unfolding empty_places LawfulPlaces
 lawful_empty zero = λ i. tt
-lawful_empty (suc n) = λ i. elim i [ zero ↦ tt | suc j ↦ lawful_empty n j ]
+lawful_empty (suc n) = λ i. elim i as (λ z. LawfulPlace (get_or (empty_places (suc n)) z none)) [ zero ↦ tt | suc j ↦ lawful_empty n j ]
 
 pub lawful_start : (t : ℕ) (l : List ℕ) (n : ℕ) → t < 256 ^ 8 → ShortList l → LawfulState (start t l n) n
 unfolding start

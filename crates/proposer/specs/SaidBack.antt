@@ -1,6 +1,6 @@
 -- What every message and tick is answered is said again by the enum and the answer area that the call leaves.
 -- Assumes nothing.
-use Rattle.std.specs.Prelude.{◌≡◌, refl, Bool, true, false, not, cond, List, [], ◌∷◌, ℕ, zero, suc, ◌+◌, ◌*◌, ◌^◌, ◌≤◌, ◌<◌, length, drop}
+use Rattle.std.specs.Prelude.{◌≡◌, refl, Bool, true, false, not, cond, List, [], ◌∷◌, ℕ, zero, suc, ◌+◌, ◌*◌, ◌^◌, ◌≤◌, ◌<◌, length, drop, get_or}
 use Rattle.std.proofs.Common.{ap, arith, lit<}
 use Rattle.std.proofs.Math.Option.{Option, none, some}
 use Rattle.std.proofs.lemmas.Bool.{not-false}
@@ -15,7 +15,7 @@ use Rattle.messages.specs.Ballots.{above}
 use Rattle.messages.specs.Message.{Value, Request, Failure, Result, Reply, Message}
 use Rattle.messages.specs.Limits.{key_most, value_most, option_fits, request_fits, result_fits, within_limits}
 use Rattle.messages.specs.Refusals.{test, first_due}
-use Rattle.messages.specs.Answers.{Row, nothing, each, timeouts, rows_at, row_bytes, said, bytes_of, reply_value, answer_of, rows_bytes, written_in}
+use Rattle.messages.specs.Answers.{Row, nothing, timeouts, rows_at, row_bytes, said, bytes_of, reply_value, answer_of, rows_bytes, written_in}
 use Rattle.messages.specs.Fit.{short_value}
 use Rattle.proposer_rules.specs.State.{Phase, Propose, Accept, Pending, Proposer, key_of, with_no, with_yes}
 use Rattle.proposer_rules.specs.Rules.{Outcome, outcome, unless, moved, to_each, to_client, proposals, applied, reply_of, next_ballot, reached, raised, asked, with_lists, promised_by, to_accept, pending_at, replace_at, take_place, message_tests, promise_tests, acceptance_tests, request_tests, rejected, granted, promise_work, in_first, on_promise, turned_down, taken, first_phase, acceptance_work, on_acceptance, foreign, work, receive, clock_back, late, in_time, insert, late_ones, rows_of, all_timeouts, tick}
@@ -28,7 +28,7 @@ use Rattle.proposer.specs.Contract.{area_tests, outcome_on, tick_on, Done}
 use Rattle.proposer_works.specs.Works.{answer_bytes}
 use Rattle.proposer_works.specs.NewValue.{applied_short}
 use Rattle.proposer_promise.specs.GrantLaws.{promised_lawful}
-use Rattle.proposer.specs.Said.{drop_stored, said-one, said_proposals, said_accepts, RowsFit, rows_there}
+use Rattle.proposer.specs.Said.{RowFits, drop_stored, said-one, said_proposals, said_accepts, RowsFit, rows_there}
 use Rattle.proposer_clock.specs.TickLaws.{length_rows, length-rows_of}
 use Rattle.proposer.specs.Stays.{TypedMessage, Lendable, Fit, none_due, sender_may, pending_holds, room, within, lendable_read}
 
@@ -192,7 +192,7 @@ late_lawful s t (some p ∷ l) h = go (late s t p) (late_lawful s t l (λ i. h (
 late_rows_fit : (l : List Pending) → AllLawful l → RowsFit (rows_of l)
 unfolding RowsFit rows_of AllLawful
 late_rows_fit [] h = λ i. (lit< tt, lit< tt)
-late_rows_fit (p ∷ l) h = λ i. elim i [ zero ↦ (h.0.client_fits, h.0.id_fits) | suc j ↦ late_rows_fit l h.1 j ]
+late_rows_fit (p ∷ l) h = λ i. elim i as (λ z. RowFits (get_or (rows_of (p ∷ l)) z (record { client = record { 0 = 0 }; id = 0 }))) [ zero ↦ (h.0.client_fits, h.0.id_fits) | suc j ↦ late_rows_fit l h.1 j ]
 
 rows_speak : (w : List ℕ) (s : Proposer) (l : List Pending) → AllLawful l → rows_at + row_bytes * length l ≤ length w → Speaks w (outcome s (all_timeouts (rows_of l)))
 unfolding rows_of

@@ -1,6 +1,6 @@
 -- What every message and tick makes of a state that may be lent: a state that may be lent, with a counter that has not fallen. So refusal 2 never comes of the proposer's own work.
 -- Assumes nothing.
-use Rattle.std.specs.Prelude.{◌≡◌, refl, Bool, true, not, cond, ◌&&◌, ◌||◌, ℕ, zero, suc, ◌+◌, ◌^◌, ◌≤◌, ◌<◌, eqb, leb, length}
+use Rattle.std.specs.Prelude.{◌≡◌, refl, Bool, true, not, cond, ◌&&◌, ◌||◌, ℕ, zero, suc, ◌+◌, ◌^◌, ◌≤◌, ◌<◌, eqb, leb, length, get_or}
 use Rattle.std.proofs.Common.{sym, subst, ◌∙◌, length-append}
 use Rattle.std.proofs.Math.Path.{ap}
 use Rattle.std.proofs.Math.Bool.{false}
@@ -119,7 +119,7 @@ length_replaced b q (some p ∷ l) = go (is_ballot b p) (length_replaced b q l)
 
 lawful_cons : (q : Option Pending) (l : List (Option Pending)) → LawfulPlace q → LawfulPlaces l → LawfulPlaces (q ∷ l)
 unfolding LawfulPlaces
-lawful_cons q l hq hl = λ i. elim i [ zero ↦ hq | suc j ↦ hl j ]
+lawful_cons q l hq hl = λ i. elim i as (λ z. LawfulPlace (get_or (q ∷ l) z none)) [ zero ↦ hq | suc j ↦ hl j ]
 
 lawful_tail : (q : Option Pending) (l : List (Option Pending)) → LawfulPlaces (q ∷ l) → LawfulPlaces l
 unfolding LawfulPlaces

@@ -12,9 +12,7 @@ use Rattle.proposer_rules.specs.Rules as Rules
 use Rattle.proposer_place.specs.Area.{area_image, sized}
 use Rattle.proposer.specs.Contract.{start_on, Started}
 use Rattle.proposer.specs.ReceiveLaws.{start_size, start_over, start_done}
-use borrow.Author.Rules.{rules}
-use Rattle.proposer.proofs.start.Statement.{statement}
-use Rattle.proposer.proofs.start.Tie as tie
+use Rattle.proposer.proofs.start.Goals as goal
 
 wrong_size : (a : List ℕ) (n t : ℕ) (l : List ℕ) (s : Bool) → s ≡ sized a n → not s ≡ true → Started a (start_on a n t l) (Answer.Refused Refusal.AreaSize) a
 wrong_size a n t l s es h = start_size a n t l s es (not-true s h)
@@ -31,43 +29,14 @@ is_sized a n s es h = sym es ∙ not-false s h
 fits : (l : List ℕ) (f : Bool) → f ≡ list_fits l → not f ≡ false → list_fits l ≡ true
 fits l f ef h = sym ef ∙ not-false f h
 
-is-sized-requires : tie.Need-is-sized-requires
-is-sized-requires c κs = search rules
+pub returns-then-not-is_sized : goal.returns-then-not-is_sized
+returns-then-not-is_sized c = search wrong_size
 
-same-length : tie.Need-same-length
-same-length c = search rules
+pub returns-then-not-list_fits : goal.returns-then-not-list_fits
+returns-then-not-list_fits c = search over_limit depth 9
 
-returns : tie.Need-returns
-returns c = search wrong_size
+pub begin-requires : goal.begin-requires
+begin-requires c = (search is_sized, search fits)
 
-list-fits-requires : tie.Need-list-fits-requires
-list-fits-requires c κs = search rules
-
-same-length-2 : tie.Need-same-length-2
-same-length-2 c = search rules
-
-returns-2 : tie.Need-returns-2
-returns-2 c = search over_limit depth 9
-
-begin-requires : tie.Need-begin-requires
-begin-requires c κs = (search is_sized, search fits)
-
-same-length-3 : tie.Need-same-length-3
-same-length-3 c = search rules
-
-returns-3 : tie.Need-returns-3
-returns-3 c = search begun depth 9
-
-pub start_spec : {M : Type 1} → statement M
-start_spec =
-    tie.close
-    (tie.spec
-    is-sized-requires
-    same-length
-    returns
-    list-fits-requires
-    same-length-2
-    returns-2
-    begin-requires
-    same-length-3
-    returns-3)
+pub returns : goal.returns
+returns c = search begun depth 9

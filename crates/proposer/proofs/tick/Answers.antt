@@ -20,8 +20,8 @@ use Rattle.proposer.specs.Contract.{tick_on, Done}
 use Rattle.proposer_works.specs.Works.{answer_bytes, Worked}
 use Rattle.proposer.specs.ReceiveLaws.{wrong_size, wrong_answer, no_image, ticked}
 use borrow.Author.Rules.{rules}
-use Rattle.proposer.proofs.tick.Statement.{statement}
-use Rattle.proposer.proofs.tick.Tie as tie
+use Rattle.proposer.proofs.tick.Goals as goal
+use Rattle.proposer.proofs.tick.Goals.{After-slice_known-1}
 
 -- ---- what the tests have shown
 
@@ -35,9 +35,9 @@ held : (a : List ℕ) (n : ℕ) (s d : Bool) → Bytes a → s ≡ sized a n →
 held a n s d bytes es h ed g = image_held a n bytes (is_sized a n s es h) (sym ed ∙ not-false d g)
 
 -- the bytes of a slice are bytes
-area_bytes : (c : tie.After-slice-known) → Bytes c.before.args.area.now
+area_bytes : (c : After-slice_known-1) → Bytes c.args.area.now
 unfolding Bytes
-area_bytes c = λ i. (c.slice-known.given i).fits
+area_bytes c = λ i. (c.type_inv.area i).fits
 
 -- ---- the returns
 
@@ -56,66 +56,27 @@ damaged a w n t s d es h size ed bad = no_image a w n (Rules.tick (read_area a n
 done : (a w : List ℕ) (n t : ℕ) (s d : Bool) (r : Answer) (a' w′ : List ℕ) → Bytes a → s ≡ sized a n → not s ≡ false → length w ≡ answer_bytes n → d ≡ is_image a n → not d ≡ false → Worked w (Rules.tick (read_area a n) t) r a' w′ → Done a w (tick_on a n w t) r a' w′
 done a w n t s d r a' w′ bytes es h size ed g work = ticked a w n s d es (not-false s h) size ed (not-false d g) (held a n s d bytes es h ed g) r a' w′ t work
 
-is-sized-requires : tie.Need-is-sized-requires
-is-sized-requires c κs = search rules
+pub returns-then-not-is_sized : goal.returns-then-not-is_sized
+returns-then-not-is_sized c = search other_size
 
-same-length : tie.Need-same-length
-same-length c = search rules
+pub overflow_mul-places : goal.overflow_mul-places
+overflow_mul-places c = omega (arith, few_places _ _ _ c.is_sized.ensures c.if-not-is_sized.false-raw)
 
-returns : tie.Need-returns
-returns c = search other_size
+pub overflow_add-places : goal.overflow_add-places
+overflow_add-places c = omega (arith, few_places _ _ _ c.is_sized.ensures c.if-not-is_sized.false-raw)
 
-mul-if2 : tie.Need-overflow-mul-if2
-mul-if2 c = omega (arith, few_places _ _ _ c.before.is_sized.ensures c.if1.false)
+pub returns-then-answer-places : goal.returns-then-answer-places
+returns-then-answer-places c = search other_answer depth 9
 
-add-if2 : tie.Need-overflow-add-if2
-add-if2 c = omega (arith, few_places _ _ _ c.before.is_sized.ensures c.if1.false)
+pub is_image-requires : goal.is_image-requires
+is_image-requires c = search is_sized
 
-same-length-2 : tie.Need-same-length-2
-same-length-2 c = search rules
+pub returns-then-not-is_image : goal.returns-then-not-is_image
+returns-then-not-is_image c = search damaged depth 9
 
-returns-2 : tie.Need-returns-2
-returns-2 c = search other_answer depth 9
+pub tick-requires : goal.tick-requires
+tick-requires c =
+    (held _ _ _ _ (area_bytes (goal.at.tick-requires c).After-slice_known-1) c.is_sized.ensures c.if-not-is_sized.false-raw c.is_image.ensures c.if-not-is_image.false-raw, search rules)
 
-is-image-requires : tie.Need-is-image-requires
-is-image-requires c κs = search is_sized
-
-same-length-3 : tie.Need-same-length-3
-same-length-3 c = search rules
-
-returns-3 : tie.Need-returns-3
-returns-3 c = search damaged depth 9
-
-tick-requires : tie.Need-tick-requires
-tick-requires c κs =
-    let image = c.before.before.before in
-    let size = image.before.before.before in
-    (held _ _ _ _ (area_bytes size.before.before.before.before) size.before.is_sized.ensures size.if1.false image.is-image.ensures c.before.before.if3.false, search rules)
-
-same-length-4 : tie.Need-same-length-4
-same-length-4 c = search rules
-
-same-length-5 : tie.Need-same-length-5
-same-length-5 c = search rules
-
-returns-4 : tie.Need-returns-4
-returns-4 c = search (done, area_bytes c.before.before.before.before.before.before.before.before.before.before.before.before.before.before.before) depth 12
-
-pub tick-spec : {M : Type 1} → statement M
-tick-spec =
-    tie.close
-    (tie.spec
-    is-sized-requires
-    same-length
-    returns
-    mul-if2
-    add-if2
-    same-length-2
-    returns-2
-    is-image-requires
-    same-length-3
-    returns-3
-    tick-requires
-    same-length-4
-    same-length-5
-    returns-4)
+pub returns : goal.returns
+returns c = search (done, area_bytes (goal.at.returns c).After-slice_known-1) depth 12
