@@ -193,7 +193,7 @@ module _ (fixed : List ℕ) where
 
   module _ (s : Plant) (h : Past) (tie : Tied fixed s h) where
     -- a chain of choices is one of arrived requests
-    by_requests : {k : Key} {b b₁ : Ballot} {v v₁ : Option Value} {ns : List ℕ} → Chain plant_order (Majority fixed) h.choices s.acceptances k b v b₁ v₁ ns → ByRequests s k b v b₁ v₁ ns
+    by_requests : {k : Key} {b : Ballot} {v : Option Value} {b₁ : Ballot} {v₁ : Option Value} {ns : List ℕ} → Chain plant_order (Majority fixed) h.choices s.acceptances k b v b₁ v₁ ns → ByRequests s k b v b₁ v₁ ns
     by_requests here = unchanged
     by_requests {k = k} {b = b} {v = v} (next {b₁ = b₁} {v₁ = v₁} {ns = ns} ch c m ek lt eo ac) =
         let u = tie.choice_use c m in

@@ -72,11 +72,11 @@ module _ (O : Order) (Quorum : List ℕ → Type 0) where
 
     -- ---- the arrivals of a chain
 
-    climbs : {k : Key} {b b₁ : Ballot} {v v₁ : Option Value} {ns : List ℕ} → Chain s.choices s.acceptances k b v b₁ v₁ ns → NotAbove O b b₁
+    climbs : {k : Key} {b : Ballot} {v : Option Value} {b₁ : Ballot} {v₁ : Option Value} {ns : List ℕ} → Chain s.choices s.acceptances k b v b₁ v₁ ns → NotAbove O b b₁
     climbs {b = b} here = itself O b
     climbs (next ch c m ek lt eo ac) = below_not_above O (then_below O (climbs ch) lt)
 
-    links : {k : Key} {b b₁ : Ballot} {v v₁ : Option Value} {ns : List ℕ} → Chain s.choices s.acceptances k b v b₁ v₁ ns → (n : ℕ) → In n ns → Some s.choices (λ d. (d.arrival ≡ n) × Below b d.ballot × NotAbove O d.ballot b₁)
+    links : {k : Key} {b : Ballot} {v : Option Value} {b₁ : Ballot} {v₁ : Option Value} {ns : List ℕ} → Chain s.choices s.acceptances k b v b₁ v₁ ns → (n : ℕ) → In n ns → Some s.choices (λ d. (d.arrival ≡ n) × Below b d.ballot × NotAbove O d.ballot b₁)
     links here = λ n m. absurd (Memᴰ.not-nil m)
     links (next ch c m ek lt eo ac) =
         all_cons
@@ -85,7 +85,7 @@ module _ (O : Order) (Quorum : List ℕ → Type 0) where
         let d = links ch n h in
         record { it = d.it; at = d.at; is = (d.is.0, d.is.1, below_not_above O (then_below O d.is.2 lt)) })
 
-    arrivals_apart : {k : Key} {b b₁ : Ballot} {v v₁ : Option Value} {ns : List ℕ} → Chain s.choices s.acceptances k b v b₁ v₁ ns → Distinct ns
+    arrivals_apart : {k : Key} {b : Ballot} {v : Option Value} {b₁ : Ballot} {v₁ : Option Value} {ns : List ℕ} → Chain s.choices s.acceptances k b v b₁ v₁ ns → Distinct ns
     arrivals_apart here = none_yet
     arrivals_apart (next ch c m ek lt eo ac) =
         one_more

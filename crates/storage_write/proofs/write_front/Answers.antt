@@ -29,13 +29,13 @@ pub put-requires-3 : goal.put-requires-3
 put-requires-3 c = omega (arith, long)
 
 pub bounds-b-0 : goal.bounds-b-0
-bounds-b-0 c = omega (arith, long)
+bounds-b-0 c = omega (arith, long, length-set {A = ℕ})
 
 pub bounds-b-1 : goal.bounds-b-1
-bounds-b-1 c = simp length-set (omega (arith, long))
+bounds-b-1 c = omega (arith, long, length-set {A = ℕ})
 
 pub bounds-b-2 : goal.bounds-b-2
-bounds-b-2 c = simp length-set (omega (arith, long))
+bounds-b-2 c = omega (arith, long, length-set {A = ℕ})
 
 pub shape_of-b : goal.shape_of-b
 shape_of-b c = simp length-set (omega arith)

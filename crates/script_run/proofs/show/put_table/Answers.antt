@@ -16,15 +16,7 @@ use Rattle.script_words.specs.WrittenLaws.{Left, all_left, less_left, none_left}
 use Rattle.script_answer.specs.Lines.{block_line}
 use Rattle.script_run.specs.Obeyed.{block_lines, table_text}
 use borrow.Author.Rules.{rules}
-use Rattle.script_run.proofs.show.put_table.Statement.{statement}
-use Rattle.script_run.proofs.show.put_table.Tie as tie
-
-abbrev invariant-loop : tie.invariant-loop
-invariant-loop out₀ at table p₀ i₀ a₀ out p i a =
-    (i ≤ a) × (a ≤ length table) × (p ≤ length out) × Left out₀ at (table_text table) out p (block_lines (length table - i) i (drop a table))
-
-abbrev decreases-loop : tie.decreases-loop
-decreases-loop out₀ at table p₀ i₀ a₀ out p i a = length table - a
+use Rattle.script_run.proofs.show.put_table.Goals as goal
 
 begins : (out table : List ℕ) (at : ℕ) → Left out at (table_text table) out at (block_lines (length table - 0) 0 (drop 0 table))
 unfolding table_text
@@ -88,53 +80,14 @@ within out next text p q f = f.within
 size : (out₀ out whole left : List ℕ) (at p : ℕ) → Left out₀ at whole out p left → length out ≡ length out₀
 size out₀ out whole left at p l = l.size
 
-loop-holds : tie.Need-loop-init invariant-loop decreases-loop
-loop-holds c = (search rules, search rules, search rules, search begins)
+pub loop-a-init : goal.loop-a-init
+loop-a-init c = (search rules, search rules, search rules, search begins)
 
-block-end-requires : tie.Need-block-end-requires invariant-loop decreases-loop
-block-end-requires c κs = search rules
+pub loop-a-preserved : goal.loop-a-preserved
+loop-a-preserved c = (omega arith, omega arith, search within, search again depth 12)
 
-sub-put-block : tie.Need-overflow-sub-put-block invariant-loop decreases-loop
-sub-put-block c = search rules
+pub shape_of-out : goal.shape_of-out
+shape_of-out c = search size
 
-part-put-block-start : tie.Need-slice-bounds-put-block-start invariant-loop decreases-loop
-part-put-block-start c = search rules
-
-part-put-block-end : tie.Need-slice-bounds-put-block-end invariant-loop decreases-loop
-part-put-block-end c = search rules
-
-put-block-requires : tie.Need-put-block-requires invariant-loop decreases-loop
-put-block-requires c κs = search rules
-
-add-i : tie.Need-overflow-add-i invariant-loop decreases-loop
-add-i c = search rules
-
-loop-less : tie.Need-loop-smaller invariant-loop decreases-loop
-loop-less c = search rules
-
-loop-again : tie.Need-loop-preserved invariant-loop decreases-loop
-loop-again c = (omega arith, omega arith, search within, search again depth 12)
-
-same-length : tie.Need-same-length invariant-loop decreases-loop
-same-length c = search size
-
-returns : tie.Need-returns invariant-loop decreases-loop
+pub returns : goal.returns
 returns c = search whole depth 9
-
-pub put-table-spec : {M : Type 1} → statement M
-put-table-spec =
-    tie.close
-    (tie.spec
-    invariant-loop
-    decreases-loop
-    loop-holds
-    block-end-requires
-    sub-put-block
-    part-put-block-start
-    part-put-block-end
-    put-block-requires
-    add-i
-    loop-less
-    loop-again
-    same-length
-    returns)

@@ -16,8 +16,7 @@ use Rattle.script_run.specs.Run.{put_up_to}
 use Rattle.script_run.specs.Obeyed.{ran, lent_back, started_by, Held, Stepped}
 use Rattle.script_run.specs.Laws.{back, lent, back_length, length_back}
 use borrow.Author.Rules.{rules}
-use Rattle.script_run.proofs.start.open_proposer.Statement.{statement}
-use Rattle.script_run.proofs.start.open_proposer.Tie as tie
+use Rattle.script_run.proofs.start.open_proposer.Goals as goal
 
 started : (s r : Run) (t a out ys out' list : List ℕ) (at timeout : ℕ) (x : Answer) → Held s t a out → length ys ≡ length (take (s.bytes - 0) (drop 0 t)) → Started (take (s.bytes - 0) (drop 0 t)) (start_on (take (s.bytes - 0) (drop 0 t)) s.capacity timeout list) x ys → Put out s.at (answer_line x (take (s.area - 0) (drop 0 a))) at out' → r ≡ put_up_to s at → Stepped s out (started_by (ran s t a []) (start_on (take s.bytes t) s.capacity timeout list)) r (put_mid 0 (s.bytes - 0) t ys) a out'
 started s r t a out ys out' list at timeout x held y begun put e =
@@ -35,55 +34,5 @@ started s r t a out ys out' list at timeout x held y begun put e =
       held = (omega (arith, u, held.0), omega (arith, u, held.1), held.2, p.within);
     })
 
-sub-start : tie.Need-overflow-sub-start
-sub-start c = search rules
-
-part-start-start : tie.Need-slice-bounds-start-start
-part-start-start c = search rules
-
-part-start-end : tie.Need-slice-bounds-start-end
-part-start-end c = search rules
-
-start-requires : tie.Need-start-requires
-start-requires c κs = search rules
-
-sub-put-answer : tie.Need-overflow-sub-put-answer
-sub-put-answer c = search rules
-
-part-put-answer-start : tie.Need-slice-bounds-put-answer-start
-part-put-answer-start c = search rules
-
-part-put-answer-end : tie.Need-slice-bounds-put-answer-end
-part-put-answer-end c = search rules
-
-put-answer-requires : tie.Need-put-answer-requires
-put-answer-requires c κs = search rules
-
-put-up-to-requires : tie.Need-put-up-to-requires
-put-up-to-requires c κs = search rules
-
-same-length : tie.Need-same-length
-same-length c = search rules
-
-same-length-2 : tie.Need-same-length-2
-same-length-2 c = search rules
-
-returns : tie.Need-returns
+pub returns : goal.returns
 returns c = search started depth 12
-
-pub open-proposer-spec : {M : Type 1} → statement M
-open-proposer-spec =
-    tie.close
-    (tie.spec
-    sub-start
-    part-start-start
-    part-start-end
-    start-requires
-    sub-put-answer
-    part-put-answer-start
-    part-put-answer-end
-    put-answer-requires
-    put-up-to-requires
-    same-length
-    same-length-2
-    returns)

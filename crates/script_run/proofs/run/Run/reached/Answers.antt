@@ -5,8 +5,7 @@ use Prim.Native.Nat.{ℕ, max}
 use Rattle.script_run.specs.declared.run.Run.{Run}
 use Rattle.script_run.specs.Run.{reached}
 use borrow.Author.Rules.{rules}
-use Rattle.script_run.proofs.run.Run.reached.Statement.{statement}
-use Rattle.script_run.proofs.run.Run.reached.Tie as tie
+use Rattle.script_run.proofs.run.Run.reached.Goals as goal
 
 abbrev with_reach : Run → ℕ → Run
 with_reach s r = record {
@@ -24,11 +23,5 @@ with_reach s r = record {
 larger_reach : (s : Run) (to r : ℕ) → r ≡ max s.reach to → with_reach s r ≡ reached s to
 larger_reach s to r e = ap (with_reach s) e
 
-larger-requires : tie.Need-larger-requires
-larger-requires c κs = search rules
-
-returns : tie.Need-returns
+pub returns : goal.returns
 returns c = search larger_reach
-
-pub reached-spec : {M : Type 1} → statement M
-reached-spec = tie.close (tie.spec larger-requires returns)

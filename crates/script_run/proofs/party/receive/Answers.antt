@@ -11,9 +11,8 @@ use Rattle.acceptor.specs.Contract.{Received}
 use Rattle.proposer.specs.Contract.{outcome_on, Done}
 use Rattle.script_run.specs.Obeyed.{message_on, Gave}
 use borrow.Author.Rules.{rules}
-use Rattle.script_run.proofs.party.receive.Statement.{statement}
-use Rattle.script_run.proofs.party.receive.Tie as tie
 use Rattle.proposer.proofs.receive.Reads as receive-reads'
+use Rattle.script_run.proofs.party.receive.Goals as goal
 
 by_proposer : (p : Bool) (t : List ℕ) (n : ℕ) (a : List ℕ) (from : Address) (at : ℕ) (m : Message) (r : Answer) (t′ a' : List ℕ) → p ≡ true → Done t a (outcome_on t n a from at m) r t′ a' → Gave (message_on p t n a from at m) r t′ a'
 unfolding message_on
@@ -23,39 +22,8 @@ by_acceptor : (p : Bool) (t : List ℕ) (n : ℕ) (a : List ℕ) (from : Address
 unfolding message_on
 by_acceptor p t n a from at m r t′ a' e d = rw e (record { answer = d.answer; lent = d.table; area = d.area })
 
-receive-requires : tie.Need-receive-requires
-receive-requires c κs = search rules
+pub returns-then-proposer : goal.returns-then-proposer
+returns-then-proposer c = search by_proposer depth 12
 
-same-length : tie.Need-same-length
-same-length c = search rules
-
-same-length-2 : tie.Need-same-length-2
-same-length-2 c = search rules
-
-returns : tie.Need-returns
-returns c = search by_proposer depth 12
-
-receive-requires-2 : tie.Need-receive-requires-2
-receive-requires-2 c κs = search rules
-
-same-length-3 : tie.Need-same-length-3
-same-length-3 c = search rules
-
-same-length-4 : tie.Need-same-length-4
-same-length-4 c = search rules
-
-returns-2 : tie.Need-returns-2
-returns-2 c = search by_acceptor depth 12
-
-pub receive-spec : {M : Type 1} → statement M
-receive-spec =
-    tie.close
-    (tie.spec
-    receive-requires
-    same-length
-    same-length-2
-    returns
-    receive-requires-2
-    same-length-3
-    same-length-4
-    returns-2)
+pub returns : goal.returns
+returns c = search by_acceptor depth 12

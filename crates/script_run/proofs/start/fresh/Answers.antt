@@ -13,8 +13,7 @@ use Rattle.script_run.specs.Run.{lending, cleared}
 use Rattle.script_run.specs.Obeyed.{unreadable, lent_back, fresh_in, Held, Stepped}
 use Rattle.script_run.specs.Laws.{quiet, back, lent}
 use borrow.Author.Rules.{rules}
-use Rattle.script_run.proofs.start.fresh.Statement.{statement}
-use Rattle.script_run.proofs.start.fresh.Tie as tie
+use Rattle.script_run.proofs.start.fresh.Goals as goal
 
 table_short : (s r : Run) (t a out out' : List ℕ) (line capacity bytes n : ℕ) (p : Bool) → length t < bytes → Stepped s out (unreadable s t a line) r t a out' → Stepped s out (fresh_in s t a line p capacity bytes n) r t a out'
 unfolding fresh_in
@@ -36,87 +35,11 @@ all_zeros s u r t a out ys a' line capacity bytes n p held h g ey ea eu er =
     rw (le-ltb (length t) bytes h, le-ltb (length a) n g, t′, ea)
     (quiet s (lending (cleared s) p capacity bytes n) r _ _ out held.3 refl new (omega (arith, long, h), omega (arith, long, h), omega (arith, wide, g), held.3))
 
-unreadable-requires : tie.Need-unreadable-requires
-unreadable-requires c κs = search rules
+pub returns-then-table-bytes : goal.returns-then-table-bytes
+returns-then-table-bytes c = search table_short depth 9
 
-same-length : tie.Need-same-length
-same-length c = search rules
+pub returns-then-area-n : goal.returns-then-area-n
+returns-then-area-n c = search area_short depth 9
 
-same-length-2 : tie.Need-same-length-2
-same-length-2 c = search rules
-
-same-length-3 : tie.Need-same-length-3
-same-length-3 c = search rules
-
-returns : tie.Need-returns
-returns c = search table_short depth 9
-
-unreadable-requires-2 : tie.Need-unreadable-requires-2
-unreadable-requires-2 c κs = search rules
-
-same-length-4 : tie.Need-same-length-4
-same-length-4 c = search rules
-
-same-length-5 : tie.Need-same-length-5
-same-length-5 c = search rules
-
-same-length-6 : tie.Need-same-length-6
-same-length-6 c = search rules
-
-returns-2 : tie.Need-returns-2
-returns-2 c = search area_short depth 9
-
-sub-clear : tie.Need-overflow-sub-clear
-sub-clear c = search rules
-
-part-clear-start : tie.Need-slice-bounds-clear-start
-part-clear-start c = search rules
-
-part-clear-end : tie.Need-slice-bounds-clear-end
-part-clear-end c = search rules
-
-clear-requires : tie.Need-clear-requires
-clear-requires c κs = search rules
-
-clear-requires-2 : tie.Need-clear-requires-2
-clear-requires-2 c κs = search rules
-
-cleared-requires : tie.Need-cleared-requires
-cleared-requires c κs = search rules
-
-lending-requires : tie.Need-lending-requires
-lending-requires c κs = search rules
-
-same-length-7 : tie.Need-same-length-7
-same-length-7 c = search rules
-
-same-length-8 : tie.Need-same-length-8
-same-length-8 c = search rules
-
-returns-3 : tie.Need-returns-3
-returns-3 c = search all_zeros depth 12
-
-pub fresh-spec : {M : Type 1} → statement M
-fresh-spec =
-    tie.close
-    (tie.spec
-    unreadable-requires
-    same-length
-    same-length-2
-    same-length-3
-    returns
-    unreadable-requires-2
-    same-length-4
-    same-length-5
-    same-length-6
-    returns-2
-    sub-clear
-    part-clear-start
-    part-clear-end
-    clear-requires
-    clear-requires-2
-    cleared-requires
-    lending-requires
-    same-length-7
-    same-length-8
-    returns-3)
+pub returns : goal.returns
+returns c = search all_zeros depth 12

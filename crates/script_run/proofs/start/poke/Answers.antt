@@ -13,8 +13,7 @@ use Rattle.script_run.specs.Run.{reached}
 use Rattle.script_run.specs.Obeyed.{unreadable, poke_in, Held, Stepped}
 use Rattle.script_run.specs.Laws.{quiet}
 use borrow.Author.Rules.{rules}
-use Rattle.script_run.proofs.start.poke.Statement.{statement}
-use Rattle.script_run.proofs.start.poke.Tie as tie
+use Rattle.script_run.proofs.start.poke.Goals as goal
 
 outside : (s r : Run) (t a out out' v : List ℕ) (line at : ℕ) → length t < at → Stepped s out (unreadable s t a line) r t a out' → Stepped s out (poke_in s t a line at v) r t a out'
 unfolding poke_in
@@ -31,63 +30,11 @@ stored s r t a out t′ v line at held h g e f =
     rw (le-ltb (length t) at h, le-ltb (length t - at) (length v) g, e)
     (quiet s (reached s (at + length v)) r (sets t at v) a out held.3 refl f (omega (arith, long, held.0), omega (arith, long, held.1, g, h), held.2, held.3))
 
-unreadable-requires : tie.Need-unreadable-requires
-unreadable-requires c κs = search rules
+pub returns-then-table-at : goal.returns-then-table-at
+returns-then-table-at c = search outside depth 9
 
-same-length : tie.Need-same-length
-same-length c = search rules
+pub returns-then-table-at-2 : goal.returns-then-table-at-2
+returns-then-table-at-2 c = search too_long depth 9
 
-same-length-2 : tie.Need-same-length-2
-same-length-2 c = search rules
-
-returns : tie.Need-returns
-returns c = search outside depth 9
-
-sub-if2 : tie.Need-overflow-sub-if2
-sub-if2 c = search rules
-
-unreadable-requires-2 : tie.Need-unreadable-requires-2
-unreadable-requires-2 c κs = search rules
-
-same-length-3 : tie.Need-same-length-3
-same-length-3 c = search rules
-
-same-length-4 : tie.Need-same-length-4
-same-length-4 c = search rules
-
-returns-2 : tie.Need-returns-2
-returns-2 c = search too_long depth 9
-
-copy-requires : tie.Need-copy-requires
-copy-requires c κs = search rules
-
-add-reached : tie.Need-overflow-add-reached
-add-reached c = search rules
-
-reached-requires : tie.Need-reached-requires
-reached-requires c κs = search rules
-
-same-length-5 : tie.Need-same-length-5
-same-length-5 c = search rules
-
-returns-3 : tie.Need-returns-3
-returns-3 c = search stored depth 9
-
-pub poke_spec : {M : Type 1} → statement M
-poke_spec =
-    tie.close
-    (tie.spec
-    unreadable-requires
-    same-length
-    same-length-2
-    returns
-    sub-if2
-    unreadable-requires-2
-    same-length-3
-    same-length-4
-    returns-2
-    copy-requires
-    add-reached
-    reached-requires
-    same-length-5
-    returns-3)
+pub returns : goal.returns
+returns c = search stored depth 9

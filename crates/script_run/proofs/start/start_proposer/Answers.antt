@@ -14,8 +14,7 @@ use Rattle.script_run.specs.Run.{put_up_to}
 use Rattle.script_run.specs.Obeyed.{Ran, ran, unreadable, fresh_in, started_by, opened_by, proposer_in, Held, Stepped}
 use Rattle.script_run.specs.Laws.{first_of, second_of}
 use borrow.Author.Rules.{rules}
-use Rattle.script_run.proofs.start.start_proposer.Statement.{statement}
-use Rattle.script_run.proofs.start.start_proposer.Tie as tie
+use Rattle.script_run.proofs.start.start_proposer.Goals as goal
 
 too_many : (s r : Run) (t a out out' list : List ℕ) (line places timeout : ℕ) → 60 < places → Stepped s out (unreadable s t a line) r t a out' → Stepped s out (proposer_in s t a line places timeout list) r t a out'
 unfolding proposer_in
@@ -52,83 +51,14 @@ begun s u r t a out t′ a' o1 t'' out' list line places timeout h k e q =
 held_fresh : (s u : Run) (out t′ a' o1 : List ℕ) (o : Ran) → Stepped s out o u t′ a' o1 → Held u t′ a' o1
 held_fresh s u out t′ a' o1 o k = k.held
 
-unreadable-requires : tie.Need-unreadable-requires
-unreadable-requires c κs = search rules
+pub returns-then-places-gt-PLACES_ROOM : goal.returns-then-places-gt-PLACES_ROOM
+returns-then-places-gt-PLACES_ROOM c = search too_many depth 12
 
-same-length : tie.Need-same-length
-same-length c = search rules
+pub returns-then-t : goal.returns-then-t
+returns-then-t c = search unopened depth 12
 
-same-length-2 : tie.Need-same-length-2
-same-length-2 c = search rules
+pub open_proposer-requires : goal.open_proposer-requires
+open_proposer-requires c = search held_fresh
 
-same-length-3 : tie.Need-same-length-3
-same-length-3 c = search rules
-
-returns : tie.Need-returns
-returns c = search too_many depth 12
-
-mul-bytes : tie.Need-overflow-mul-bytes
-mul-bytes c = search rules
-
-add-bytes : tie.Need-overflow-add-bytes
-add-bytes c = search rules
-
-mul-n : tie.Need-overflow-mul-n
-mul-n c = search rules
-
-add-n : tie.Need-overflow-add-n
-add-n c = search rules
-
-fresh-requires : tie.Need-fresh-requires
-fresh-requires c κs = search rules
-
-same-length-4 : tie.Need-same-length-4
-same-length-4 c = search rules
-
-same-length-5 : tie.Need-same-length-5
-same-length-5 c = search rules
-
-same-length-6 : tie.Need-same-length-6
-same-length-6 c = search rules
-
-returns-2 : tie.Need-returns-2
-returns-2 c = search unopened depth 12
-
-open-proposer-requires : tie.Need-open-proposer-requires
-open-proposer-requires c κs = search held_fresh
-
-same-length-7 : tie.Need-same-length-7
-same-length-7 c = search rules
-
-same-length-8 : tie.Need-same-length-8
-same-length-8 c = search rules
-
-same-length-9 : tie.Need-same-length-9
-same-length-9 c = search rules
-
-returns-3 : tie.Need-returns-3
-returns-3 c = search begun depth 12
-
-pub start-proposer-spec : {M : Type 1} → statement M
-start-proposer-spec =
-    tie.close
-    (tie.spec
-    unreadable-requires
-    same-length
-    same-length-2
-    same-length-3
-    returns
-    mul-bytes
-    add-bytes
-    mul-n
-    add-n
-    fresh-requires
-    same-length-4
-    same-length-5
-    same-length-6
-    returns-2
-    open-proposer-requires
-    same-length-7
-    same-length-8
-    same-length-9
-    returns-3)
+pub returns : goal.returns
+returns c = search begun depth 12
