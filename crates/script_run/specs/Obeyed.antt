@@ -1,13 +1,12 @@
 -- What each step of a script does (docs/SCRIPT.md): where the run then stands, every byte of the table or area and of the answer area, and the text that it puts out. A message, a tick and a start are the party's own rules on what is lent to it.
 -- Assumes nothing.
-use Rattle.std.specs.Prelude.{◌≡◌, Bool, true, false, not, cond, ◌&&◌, List, [], ◌∷◌, ◌++◌, ℕ, zero, suc, ◌+◌, ◌-◌, ◌*◌, ◌≤◌, eqb, ltb, length, take, drop, replicate}
+use Rattle.std.specs.Prelude.{◌≡◌, Bool, true, false, not, cond, List, [], ◌++◌, ℕ, zero, suc, ◌+◌, ◌-◌, ◌*◌, ◌≤◌, eqb, ltb, length, take, drop, replicate}
 use Rattle.std.proofs.lemmas.List.Edits.{sets}
 use Rattle.messages.specs.declared.Address.{Address}
-use Rattle.messages.specs.declared.Rpc.{Rpc}
 use Rattle.messages.specs.declared.answer.Answer.{Answer}
 use Rattle.messages.specs.Message.{Message, message_of}
 use Rattle.messages.specs.Limits.{registers_most}
-use Rattle.messages.specs.Answers.{Told, rows_at, row_bytes, answer_of, written_in}
+use Rattle.messages.specs.Answers.{Told, answer_of, written_in}
 use Rattle.storage_block.specs.Block.{block_bytes}
 use Rattle.acceptor_rules.specs.Rules as Accepting
 use Rattle.acceptor.specs.Contract as Acceptor

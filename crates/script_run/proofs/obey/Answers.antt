@@ -1,15 +1,12 @@
 -- `script_run::obey` meets its contract: the line is read, its bytes stand in the buffer, and its step is done with them.
 -- Assumes nothing.
-use mathlib.Core.Path.{◌≡◌, sym, ap, ◌∙◌}
+use mathlib.Core.Path.{◌≡◌, ◌∙◌}
 use mathlib.Core.List.{List}
 use Prim.Native.Nat.{ℕ, ◌-◌, ◌≤◌, ◌<◌}
-use native.Mathlib.Nat.{sub-zero}
-use native.Mathlib.Omega.{arith}
 use borrow.Author.Tests.{lt-ltb, le-ltb}
 use lib.ListN.{length, take, drop}
-use Rattle.script.specs.declared.step.Step.{Step}
 use Rattle.script.specs.declared.step.Line.{Line}
-use Rattle.script.specs.Read.{Read, step_of, key_of, value_of, other_of, numbers_of, key_there, value_there, other_there, list_there}
+use Rattle.script.specs.Read.{Read, key_of, value_of, other_of, numbers_of, key_there, value_there, other_there, list_there}
 use Rattle.script_run.specs.declared.run.Run.{Run}
 use Rattle.script_run.specs.Obeyed.{unreadable, taken_in, obeyed, Stepped}
 use Rattle.script_run.specs.Laws.{lent}

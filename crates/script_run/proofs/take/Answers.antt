@@ -1,6 +1,6 @@
 -- `script_run::take` meets its contract: each step is the one that its name says.
 -- Assumes nothing.
-use mathlib.Core.Path.{◌≡◌, refl, sym, ap, ◌∙◌}
+use mathlib.Core.Path.{◌≡◌, refl, sym, ◌∙◌}
 use mathlib.Core.Bool.{Bool, true, false}
 use mathlib.Core.List.{List}
 use Prim.Native.Nat.{ℕ}
@@ -10,7 +10,6 @@ use Rattle.script_run.specs.declared.run.Run.{Run}
 use Rattle.script_run.specs.Run.{timed}
 use Rattle.script_run.specs.Obeyed.{stopped, lacks_party, step_in, taken_in, Held, Stepped}
 use Rattle.script_run.specs.Laws.{quiet, first_of, second_of}
-use borrow.Author.Rules.{rules}
 use Rattle.script_run.proofs.take.Goals as goal
 
 no_party : (s r : Run) (t a out out' k v o l : List ℕ) (line : ℕ) (step : Step) (f : Bool) → f ≡ lacks_party step s.started → f ≡ true → Stepped s out (stopped s t a line (letters ": no party yet\n")) r t a out' → Stepped s out (taken_in s t a line step k v o l) r t a out'
@@ -26,9 +25,6 @@ passed s t a out k v o l line step f held e h m = arm s s t a out t a out k v o 
 
 timed_only : (s r : Run) (t a out k v o l : List ℕ) (line time : ℕ) (step : Step) (f : Bool) → Held s t a out → f ≡ lacks_party step s.started → f ≡ false → step ≡ Step.Clock time → r ≡ timed s time → Stepped s out (taken_in s t a line step k v o l) r t a out
 timed_only s r t a out k v o l line time step f held e h m g = arm s r t a out t a out k v o l line step (Step.Clock time) f e h m (quiet s (timed s time) r t a out held.3 refl g held)
-
--- MISSING slice-aggregate-stop : tie.Need-slice-aggregate-stop
-slice-aggregate-stop c = search rules
 
 pub returns-then-lacks_party : goal.returns-then-lacks_party
 returns-then-lacks_party c = search no_party depth 14

@@ -10,8 +10,6 @@ use Rattle.messages.specs.Message.{Message}
 use Rattle.acceptor.specs.Contract.{Received}
 use Rattle.proposer.specs.Contract.{outcome_on, Done}
 use Rattle.script_run.specs.Obeyed.{message_on, Gave}
-use borrow.Author.Rules.{rules}
-use Rattle.proposer.proofs.receive.Reads as receive-reads'
 use Rattle.script_run.proofs.party.receive.Goals as goal
 
 by_proposer : (p : Bool) (t : List ℕ) (n : ℕ) (a : List ℕ) (from : Address) (at : ℕ) (m : Message) (r : Answer) (t′ a' : List ℕ) → p ≡ true → Done t a (outcome_on t n a from at m) r t′ a' → Gave (message_on p t n a from at m) r t′ a'

@@ -14,7 +14,6 @@ use Rattle.script_run.specs.declared.run.Run.{Run}
 use Rattle.script_run.specs.Run.{put_up_to}
 use Rattle.script_run.specs.Obeyed.{message_on, message_in, Gave, Held, Stepped}
 use Rattle.script_run.specs.Laws.{lent, heard}
-use borrow.Author.Rules.{rules}
 use Rattle.script_run.proofs.party.send.Goals as goal
 
 message_heard : (s r : Run) (t a out ys zs out' : List ℕ) (at : ℕ) (from : Address) (m : Message) (x : Answer) → Held s t a out → length ys ≡ length (take (s.bytes - 0) (drop 0 t)) → length zs ≡ length (take (s.area - 0) (drop 0 a)) → Gave (message_on s.proposer (take (s.bytes - 0) (drop 0 t)) s.capacity (take (s.area - 0) (drop 0 a)) from s.clock m) x ys zs → Put out s.at (answer_line x (take (s.area - 0) (drop 0 (put_mid 0 (s.area - 0) a zs)))) at out' → r ≡ put_up_to s at → Stepped s out (message_in s t a from m) r (put_mid 0 (s.bytes - 0) t ys) (put_mid 0 (s.area - 0) a zs) out'

@@ -1,6 +1,6 @@
 -- `script_run::party::tick` meets its contract: a proposer is asked, and an acceptor answers nothing.
 -- Assumes nothing.
-use mathlib.Core.Path.{◌≡◌, refl, ap, ◌∙◌}
+use mathlib.Core.Path.{◌≡◌, refl}
 use mathlib.Core.Bool.{true, false}
 use mathlib.Core.List.{List}
 use Prim.Native.Nat.{ℕ, ◌-◌}
@@ -12,7 +12,6 @@ use Rattle.script_run.specs.declared.run.Run.{Run}
 use Rattle.script_run.specs.Run.{put_up_to}
 use Rattle.script_run.specs.Obeyed.{ran, ticked_in, tick_in, Held, Stepped}
 use Rattle.script_run.specs.Laws.{first_of, second_of, lent}
-use borrow.Author.Rules.{rules}
 use Rattle.script_run.proofs.party.tick.Goals as goal
 
 at_proposer : (s r : Run) (t a out t′ a' out' : List ℕ) (time : ℕ) → s.proposer ≡ true → Stepped s out (ticked_in s t a time) r t′ a' out' → Stepped s out (tick_in s t a time) r t′ a' out'

@@ -1,6 +1,6 @@
 -- `script_run::show::show_area` meets its contract: the lent answer area is put out.
 -- Assumes nothing.
-use mathlib.Core.Path.{◌≡◌, refl}
+use mathlib.Core.Path.{◌≡◌}
 use mathlib.Core.List.{List}
 use Prim.Native.Nat.{ℕ, ◌-◌}
 use lib.ListN.{take, drop}
@@ -10,7 +10,6 @@ use Rattle.script_run.specs.declared.run.Run.{Run}
 use Rattle.script_run.specs.Run.{put_up_to}
 use Rattle.script_run.specs.Obeyed.{ran, Held, Stepped}
 use Rattle.script_run.specs.Laws.{shown}
-use borrow.Author.Rules.{rules}
 use Rattle.script_run.proofs.show.show_area.Goals as goal
 
 area_shown : (s r : Run) (t a out out' : List ℕ) (at : ℕ) → Held s t a out → Put out s.at (area_line (take (s.area - 0) (drop 0 a))) at out' → r ≡ put_up_to s at → Stepped s out (ran s t a (area_line (take s.area a))) r t a out'

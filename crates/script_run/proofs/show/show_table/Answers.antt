@@ -9,7 +9,6 @@ use Rattle.script_run.specs.declared.run.Run.{Run}
 use Rattle.script_run.specs.Run.{put_up_to}
 use Rattle.script_run.specs.Obeyed.{table_text, ran, Held, Stepped}
 use Rattle.script_run.specs.Laws.{shown}
-use borrow.Author.Rules.{rules}
 use Rattle.script_run.proofs.show.show_table.Goals as goal
 
 table_shown : (s r : Run) (t a out out' : List ℕ) (at : ℕ) → Held s t a out → Put out s.at (table_text (take (s.bytes - 0) (drop 0 t))) at out' → r ≡ put_up_to s at → Stepped s out (ran s t a (table_text (take s.bytes t))) r t a out'

@@ -1,9 +1,9 @@
 -- `script_run::start::fresh` meets its contract: what is lent is zeros as far as it was used, and the answer area throughout.
 -- Assumes nothing.
-use mathlib.Core.Path.{◌≡◌, refl, sym, ap, ◌∙◌}
-use mathlib.Core.Bool.{Bool, true, false}
-use mathlib.Core.List.{List, []}
-use Prim.Native.Nat.{ℕ, ◌+◌, ◌-◌, ◌*◌, ◌≤◌, ◌<◌}
+use mathlib.Core.Path.{◌≡◌, refl, ap, ◌∙◌}
+use mathlib.Core.Bool.{Bool}
+use mathlib.Core.List.{List}
+use Prim.Native.Nat.{ℕ, ◌-◌, ◌≤◌, ◌<◌}
 use native.Mathlib.Omega.{arith}
 use borrow.Author.Tests.{lt-ltb, le-ltb}
 use borrow.Rule.Slice.PartMut.{put_mid}
@@ -12,7 +12,6 @@ use Rattle.script_run.specs.declared.run.Run.{Run}
 use Rattle.script_run.specs.Run.{lending, cleared}
 use Rattle.script_run.specs.Obeyed.{unreadable, lent_back, fresh_in, Held, Stepped}
 use Rattle.script_run.specs.Laws.{quiet, back, lent}
-use borrow.Author.Rules.{rules}
 use Rattle.script_run.proofs.start.fresh.Goals as goal
 
 table_short : (s r : Run) (t a out out' : List ℕ) (line capacity bytes n : ℕ) (p : Bool) → length t < bytes → Stepped s out (unreadable s t a line) r t a out' → Stepped s out (fresh_in s t a line p capacity bytes n) r t a out'

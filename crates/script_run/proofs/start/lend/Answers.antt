@@ -1,9 +1,8 @@
 -- `script_run::start::lend` meets its contract: nothing is put out where there are so many bytes.
 -- Assumes nothing.
-use mathlib.Core.Path.{◌≡◌, refl, sym, ap, ◌∙◌}
-use mathlib.Core.Bool.{Bool, true, false}
-use mathlib.Core.List.{List, []}
-use Prim.Native.Nat.{ℕ, ◌+◌, ◌-◌, ◌*◌, ◌≤◌, ◌<◌}
+use mathlib.Core.Path.{◌≡◌, refl}
+use mathlib.Core.List.{List}
+use Prim.Native.Nat.{ℕ, ◌≤◌, ◌<◌}
 use native.Mathlib.Omega.{arith}
 use borrow.Author.Tests.{lt-ltb, le-ltb}
 use lib.ListN.{length}
@@ -11,7 +10,6 @@ use Rattle.script_run.specs.declared.run.Run.{Run}
 use Rattle.script_run.specs.Run.{lending}
 use Rattle.script_run.specs.Obeyed.{unreadable, lend_in, Held, Stepped}
 use Rattle.script_run.specs.Laws.{quiet}
-use borrow.Author.Rules.{rules}
 use Rattle.script_run.proofs.start.lend.Goals as goal
 
 table_short : (s r : Run) (t a out out' : List ℕ) (line capacity bytes n : ℕ) → length t < bytes → Stepped s out (unreadable s t a line) r t a out' → Stepped s out (lend_in s t a line capacity bytes n) r t a out'

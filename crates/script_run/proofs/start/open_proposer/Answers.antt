@@ -1,21 +1,20 @@
 -- `script_run::start::open_proposer` meets its contract: the proposer is lent the front of the table, and its answer is put out.
 -- Assumes nothing.
 use mathlib.Core.Path.{◌≡◌, refl, ap, ◌∙◌}
-use mathlib.Core.List.{List, [], ◌++◌}
+use mathlib.Core.List.{List, []}
 use Prim.Native.Nat.{ℕ, ◌-◌}
 use native.Mathlib.Omega.{arith}
 use borrow.Rule.Slice.PartMut.{put_mid}
 use lib.ListN.{length, take, drop}
 use Rattle.messages.specs.declared.answer.Answer.{Answer}
 use Rattle.messages.specs.Answers.{answer_of}
-use Rattle.proposer.specs.Contract.{start_on, area_after, Started}
+use Rattle.proposer.specs.Contract.{start_on, Started}
 use Rattle.script_words.specs.Written.{Put}
 use Rattle.script_answer.specs.Lines.{answer_line}
 use Rattle.script_run.specs.declared.run.Run.{Run}
 use Rattle.script_run.specs.Run.{put_up_to}
 use Rattle.script_run.specs.Obeyed.{ran, lent_back, started_by, Held, Stepped}
 use Rattle.script_run.specs.Laws.{back, lent, back_length, length_back}
-use borrow.Author.Rules.{rules}
 use Rattle.script_run.proofs.start.open_proposer.Goals as goal
 
 started : (s r : Run) (t a out ys out' list : List ℕ) (at timeout : ℕ) (x : Answer) → Held s t a out → length ys ≡ length (take (s.bytes - 0) (drop 0 t)) → Started (take (s.bytes - 0) (drop 0 t)) (start_on (take (s.bytes - 0) (drop 0 t)) s.capacity timeout list) x ys → Put out s.at (answer_line x (take (s.area - 0) (drop 0 a))) at out' → r ≡ put_up_to s at → Stepped s out (started_by (ran s t a []) (start_on (take s.bytes t) s.capacity timeout list)) r (put_mid 0 (s.bytes - 0) t ys) a out'

@@ -1,9 +1,8 @@
 -- `script_run::start::poke` meets its contract: the bytes are stored where all of them are within the table.
 -- Assumes nothing.
-use mathlib.Core.Path.{◌≡◌, refl, sym, ap, ◌∙◌}
-use mathlib.Core.Bool.{Bool, true, false}
-use mathlib.Core.List.{List, []}
-use Prim.Native.Nat.{ℕ, ◌+◌, ◌-◌, ◌*◌, ◌≤◌, ◌<◌}
+use mathlib.Core.Path.{◌≡◌, refl}
+use mathlib.Core.List.{List}
+use Prim.Native.Nat.{ℕ, ◌+◌, ◌-◌, ◌≤◌, ◌<◌}
 use native.Mathlib.Omega.{arith}
 use borrow.Author.Tests.{lt-ltb, le-ltb}
 use lib.ListN.{length}
@@ -12,7 +11,6 @@ use Rattle.script_run.specs.declared.run.Run.{Run}
 use Rattle.script_run.specs.Run.{reached}
 use Rattle.script_run.specs.Obeyed.{unreadable, poke_in, Held, Stepped}
 use Rattle.script_run.specs.Laws.{quiet}
-use borrow.Author.Rules.{rules}
 use Rattle.script_run.proofs.start.poke.Goals as goal
 
 outside : (s r : Run) (t a out out' v : List ℕ) (line at : ℕ) → length t < at → Stepped s out (unreadable s t a line) r t a out' → Stepped s out (poke_in s t a line at v) r t a out'

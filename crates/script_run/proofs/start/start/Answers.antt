@@ -1,15 +1,11 @@
 -- `script_run::start::start` meets its contract: a table of so many registers.
 -- Assumes nothing.
-use mathlib.Core.Path.{◌≡◌, refl, sym, ap, ◌∙◌}
-use mathlib.Core.Bool.{Bool, true, false}
-use mathlib.Core.List.{List, []}
-use Prim.Native.Nat.{ℕ, ◌+◌, ◌-◌, ◌*◌, ◌≤◌, ◌<◌}
-use native.Mathlib.Omega.{arith}
+use mathlib.Core.Bool.{false}
+use mathlib.Core.List.{List}
+use Prim.Native.Nat.{ℕ, ◌*◌, ◌≤◌, ◌<◌}
 use borrow.Author.Tests.{lt-ltb, le-ltb}
-use lib.ListN.{length}
 use Rattle.script_run.specs.declared.run.Run.{Run}
 use Rattle.script_run.specs.Obeyed.{unreadable, fresh_in, acceptor_in, Stepped}
-use borrow.Author.Rules.{rules}
 use Rattle.script_run.proofs.start.start.Goals as goal
 
 too_many : (s r : Run) (t a out out' : List ℕ) (line registers : ℕ) → 1024 < registers → Stepped s out (unreadable s t a line) r t a out' → Stepped s out (acceptor_in s t a line registers) r t a out'

@@ -1,8 +1,8 @@
 -- `script_run::start::start_proposer` meets its contract: a fresh party, and its start unless there was no room for it.
 -- Assumes nothing.
-use mathlib.Core.Path.{◌≡◌, refl, sym, ap, ◌∙◌}
+use mathlib.Core.Path.{◌≡◌, sym, ap, ◌∙◌}
 use mathlib.Core.Bool.{true, false}
-use mathlib.Core.List.{List, [], ◌++◌}
+use mathlib.Core.List.{List, []}
 use Prim.Native.Nat.{ℕ, ◌+◌, ◌*◌, ◌≤◌, ◌<◌}
 use borrow.Author.Tests.{lt-ltb, le-ltb}
 use lib.ListN.{take}
@@ -13,7 +13,6 @@ use Rattle.script_run.specs.declared.run.Run.{Run}
 use Rattle.script_run.specs.Run.{put_up_to}
 use Rattle.script_run.specs.Obeyed.{Ran, ran, unreadable, fresh_in, started_by, opened_by, proposer_in, Held, Stepped}
 use Rattle.script_run.specs.Laws.{first_of, second_of}
-use borrow.Author.Rules.{rules}
 use Rattle.script_run.proofs.start.start_proposer.Goals as goal
 
 too_many : (s r : Run) (t a out out' list : List ℕ) (line places timeout : ℕ) → 60 < places → Stepped s out (unreadable s t a line) r t a out' → Stepped s out (proposer_in s t a line places timeout list) r t a out'

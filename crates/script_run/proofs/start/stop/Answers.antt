@@ -9,7 +9,6 @@ use Rattle.script_words.specs.WrittenLaws.{joined}
 use Rattle.script_run.specs.declared.run.Run.{Run}
 use Rattle.script_run.specs.Run.{put_up_to, over}
 use Rattle.script_run.specs.Obeyed.{Held, Stepped, stopped}
-use borrow.Author.Rules.{rules}
 use Rattle.script_run.proofs.start.stop.Goals as goal
 
 line_put : (s : Run) (t a out why o1 o2 out' : List ℕ) (line p q at : ℕ) (u r : Run) → Held s t a out → Put out s.at (letters "line ") p o1 → Put o1 p (decimal line) q o2 → Put o2 q why at out' → u ≡ put_up_to s at → r ≡ over u → Stepped s out (stopped s t a line why) r t a out'
@@ -17,9 +16,6 @@ line_put s t a out why o1 o2 out' line p q at u r h x y z e f =
     let whole : Put out s.at (letters "line " ++ (decimal line ++ why)) at out' = joined x (joined y z) in
     let g : r ≡ over (put_up_to s at) = f ∙ ap over e in
     rw g (record { run = refl; table = refl; area = refl; put = whole; held = (h.0, h.1, h.2, whole.within) })
-
--- MISSING slice-aggregate-put-text : tie.Need-slice-aggregate-put-text
-slice-aggregate-put-text c = search rules
 
 pub returns : goal.returns
 returns c = search line_put depth 12

@@ -4,7 +4,6 @@ use mathlib.Core.Path.{◌≡◌, ap}
 use Prim.Native.Nat.{ℕ, max}
 use Rattle.script_run.specs.declared.run.Run.{Run}
 use Rattle.script_run.specs.Run.{reached}
-use borrow.Author.Rules.{rules}
 use Rattle.script_run.proofs.run.Run.reached.Goals as goal
 
 abbrev with_reach : Run → ℕ → Run
