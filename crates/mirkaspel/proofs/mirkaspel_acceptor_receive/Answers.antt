@@ -12,9 +12,7 @@ use Rattle.message_numbers.specs.declared.head.Head.{Head}
 use Rattle.message_numbers.specs.Heads.{head_in, message_in}
 use Rattle.message_numbers.specs.Answers.{refusal_of, numbers_after}
 use Rattle.mirkaspel.specs.Contract.{HandedBack}
-use borrow.Author.Rules.{rules}
-use Rattle.mirkaspel.proofs.mirkaspel_acceptor_receive.Statement.{statement}
-use Rattle.mirkaspel.proofs.mirkaspel_acceptor_receive.Tie as tie
+use Rattle.mirkaspel.proofs.mirkaspel_acceptor_receive.Goals as goal
 
 read : (t : List ℕ) (n : ℕ) (a : List ℕ) (from : Address) (u k v o l : List ℕ) (h : Head) (m : Rpc) (x : Answer) (t′ a' : List ℕ) → h ≡ head_in u → m ≡ message_in h → Received t n a from (message_of m k v o l) x t′ a' → Received t n a from (message_of (message_in (head_in u)) k v o l) x t′ a'
 read t n a from u k v o l h m x t′ a' e f p = subst (λ (y : Rpc). Received t n a from (message_of y k v o l) x t′ a') (f ∙ ap message_in e) p
@@ -22,39 +20,6 @@ read t n a from u k v o l h m x t′ a' e f p = subst (λ (y : Rpc). Received t 
 handed : (t : List ℕ) (n : ℕ) (a : List ℕ) (from : Address) (u k v o l : List ℕ) (h : Head) (m : Rpc) (x : Answer) (t′ a' : List ℕ) (w w′ : List ℕ) (r : ℕ) → h ≡ head_in u → m ≡ message_in h → Received t n a from (message_of m k v o l) x t′ a' → r ≡ refusal_of x → w′ ≡ numbers_after w x → HandedBack (λ (y : Answer). Received t n a from (message_of (message_in (head_in u)) k v o l) y t′ a') w r w′
 handed t n a from u k v o l h m x t′ a' w w′ r e f p g s = record { answer = x; meets = read t n a from u k v o l h m x t′ a' e f p; number = g; numbers = s }
 
-take-head-requires : tie.Need-take-head-requires
-take-head-requires c κs = search rules
-
-message-in-requires : tie.Need-message-in-requires
-message-in-requires c κs = search rules
-
-receive-requires : tie.Need-receive-requires
-receive-requires c κs = search rules
-
-hand-back-requires : tie.Need-hand-back-requires
-hand-back-requires c κs = search rules
-
-same-length : tie.Need-same-length
-same-length c = search rules
-
-same-length-2 : tie.Need-same-length-2
-same-length-2 c = search rules
-
-returns : tie.Need-returns
+pub returns : goal.returns
 returns c =
-    let answered = c.before.before.before.before.before.before in
-    let read = answered.before.before.before in
-    let begun = read.before.before.before.before.before.before.before.before in
-    handed _ _ _ _ begun.args.message.now _ _ _ _ _ _ _ _ _ _ _ _ read.before.take_head.ensures read.message-in.ensures answered.receive.ensures c.hand-back.ensures.0 c.hand-back.ensures.1
-
-pub mirkaspel-acceptor-receive-spec : {M : Type 1} → statement M
-mirkaspel-acceptor-receive-spec =
-    tie.close
-    (tie.spec
-    take-head-requires
-    message-in-requires
-    receive-requires
-    hand-back-requires
-    same-length
-    same-length-2
-    returns)
+    handed _ _ _ _ c.args.message.now _ _ _ _ _ _ _ _ _ _ _ _ c.take_head.ensures c.message_in-rpc.ensures c.receive-a.ensures c.hand_back.ensures.0 c.hand_back.ensures.1
