@@ -1,0 +1,81 @@
+// The functions that a caller in C or Rust links, which include/mirkaspel.h declares: each calls the function of its name in crate
+// mirkaspel and has its contract. A library exports nothing, and nothing can stand above a static library, so they are a crate of their own.
+#![tactic(auto)]
+
+ghost use Rattle.std.specs.Prelude.{◌≡◌};
+ghost use Rattle.messages.specs.declared.answer.Answer.{Answer};
+ghost use Rattle.messages.specs.Message.{message_of};
+ghost use Rattle.acceptor.specs.Contract.{Received};
+ghost use Rattle.proposer.specs.Contract.{outcome_on, tick_on, start_on, Done, Started};
+ghost use Rattle.message_numbers.specs.Heads.{head_in, message_in};
+ghost use Rattle.mirkaspel.specs.Contract.{Numbered, HandedBack};
+
+// `acceptor::receive`.
+#[unsafe(no_mangle)]
+pub extern "C" fn mirkaspel_acceptor_receive(
+    table: &mut [u8],
+    registers: usize,
+    from: u16,
+    message: &[u64; 8],
+    key: &[u8],
+    value: &[u8],
+    other: &[u8],
+    list: &[u16],
+    sent: &mut [u8],
+    answer: &mut [u64; 14],
+) -> u8
+    ensures { HandedBack (λ (a : Answer). Received table.old registers sent.old (record { 0 = from }) (message_of (message_in (head_in message.now)) key.now value.now other.now list.now) a table.new sent.new) answer.old result answer.new }
+{
+    mirkaspel::mirkaspel_acceptor_receive(
+        table, registers, from, message, key, value, other, list, sent, answer,
+    )
+}
+
+// `proposer::start`, which is answered with nothing or a refusal: its number, or 0.
+#[unsafe(no_mangle)]
+pub extern "C" fn mirkaspel_proposer_start(
+    area: &mut [u8],
+    places: usize,
+    timeout: u64,
+    list: &[u16],
+) -> u8
+    ensures { Numbered (λ (a : Answer). Started area.old (start_on area.old places timeout list.now) a area.new) result }
+{
+    mirkaspel::mirkaspel_proposer_start(area, places, timeout, list)
+}
+
+// `proposer::receive`.
+#[unsafe(no_mangle)]
+pub extern "C" fn mirkaspel_proposer_receive(
+    area: &mut [u8],
+    places: usize,
+    from: u16,
+    at: u64,
+    message: &[u64; 8],
+    key: &[u8],
+    value: &[u8],
+    other: &[u8],
+    list: &[u16],
+    sent: &mut [u8],
+    answer: &mut [u64; 14],
+) -> u8
+    ensures { HandedBack (λ (a : Answer). Done area.old sent.old (outcome_on area.old places sent.old (record { 0 = from }) at (message_of (message_in (head_in message.now)) key.now value.now other.now list.now)) a area.new sent.new) answer.old result answer.new }
+{
+    mirkaspel::mirkaspel_proposer_receive(
+        area, places, from, at, message, key, value, other, list, sent, answer,
+    )
+}
+
+// `proposer::tick`.
+#[unsafe(no_mangle)]
+pub extern "C" fn mirkaspel_proposer_tick(
+    area: &mut [u8],
+    places: usize,
+    t: u64,
+    sent: &mut [u8],
+    answer: &mut [u64; 14],
+) -> u8
+    ensures { HandedBack (λ (a : Answer). Done area.old sent.old (tick_on area.old places sent.old t) a area.new sent.new) answer.old result answer.new }
+{
+    mirkaspel::mirkaspel_proposer_tick(area, places, t, sent, answer)
+}
