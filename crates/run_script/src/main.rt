@@ -7,6 +7,7 @@ ghost use Rattle.script_run.specs.Obeyed.{Held};
 
 use script_input::{after, next_line};
 use script_run::{Run, obey};
+use std::io::{Read, Write};
 
 // A proved loop has to end, and nothing says that the input does: lines are counted up to a number that no script has.
 const LINES_MOST: u64 = 1099511627776;
@@ -14,24 +15,24 @@ const LINES_MOST: u64 = 1099511627776;
 // Room for what one line puts out: at most a whole table, 1,025 blocks of up to 1,036 bytes each.
 const LINE_ROOM: usize = 1100000;
 
-// Writes what is collected; the next line goes to the front.
-fn flush(out: &[u8], at: usize) -> usize
+// Writes what is collected, as far as that can be written; the next line goes to the front.
+fn flush<W: Write>(output: &mut W, out: &[u8], at: usize) -> usize
     requires { at ≤ length out.now }
     ensures { result ≡ 0 }
 {
-    io::write_all(libc::STDOUT_FILENO, &out[0..at]);
+    let _ = output.write_all(&out[0..at]);
     0
 }
 
 // Where the next line goes: behind what is collected, or at the front once that is written.
-fn make_room(out: &[u8], at: usize) -> usize
+fn make_room<W: Write>(output: &mut W, out: &[u8], at: usize) -> usize
     requires { at ≤ length out.now }
     ensures { result ≤ length out.now }
 {
     if LINE_ROOM <= out.len() - at {
         return at;
     }
-    flush(out, at)
+    flush(output, out, at)
 }
 
 // A run, and which part of the input is read and not used up.
@@ -43,7 +44,8 @@ struct Reading {
 }
 
 // A line of the script, once there is room for its text.
-fn do_line(
+fn do_line<W: Write>(
+    output: &mut W,
     s: Run,
     text: &[u8],
     line: u64,
@@ -56,12 +58,14 @@ fn do_line(
     requires { (Held s table.old area.old out.old) × (1800 ≤ length bytes.old) × (32 ≤ length list.old) }
     ensures { Held result table.new area.new out.new }
 {
-    let at = make_room(out, s.at);
+    let at = make_room(output, out, s.at);
     obey(s.put_up_to(at), text, line, table, area, out, bytes, list)
 }
 
 // The next line of the script; the run is over where there is none.
-fn turn(
+fn turn<R: Read, W: Write>(
+    input: &mut R,
+    output: &mut W,
     r: Reading,
     line: u64,
     table: &mut [u8],
@@ -74,7 +78,7 @@ fn turn(
     requires { (Held r.run table.old area.old out.old) × (1800 ≤ length bytes.old) × (32 ≤ length list.old) }
     ensures { Held result.run table.new area.new out.new }
 {
-    let w = next_line(buf, r.from, r.to);
+    let w = next_line(input, buf, r.from, r.to);
     let a = w.from;
     let e = w.end;
     let to = w.to;
@@ -86,7 +90,7 @@ fn turn(
             to,
         };
     }
-    let run = do_line(s, &buf[a..e], line, table, area, bytes, list, out);
+    let run = do_line(output, s, &buf[a..e], line, table, area, bytes, list, out);
     Reading {
         run,
         from: after(e, to),
@@ -95,7 +99,9 @@ fn turn(
 }
 
 // The script, line by line, over the buffers of a run.
-fn run_lines(
+fn run_lines<R: Read, W: Write>(
+    input: &mut R,
+    output: &mut W,
     table: &mut [u8],
     area: &mut [u8],
     bytes: &mut [u8],
@@ -113,16 +119,18 @@ fn run_lines(
     let mut line: u64 = 0;
     while line < LINES_MOST {
         line += 1;
-        r = turn(r, line, table, area, bytes, list, buf, out);
+        r = turn(input, output, r, line, table, area, bytes, list, buf, out);
         if r.run.ended {
-            flush(out, r.run.at);
+            flush(output, out, r.run.at);
             return;
         }
     }
 }
 
 // `bytes` has room for three words of the most bytes that one can give.
-fn main() {
+fn main(rt: HostRuntime) {
+    let mut input = rt.stdin();
+    let mut output = rt.stdout();
     let mut table = [0u8; 524800];
     let mut area = [0u8; 1024];
     let mut bytes = [0u8; 1800];
@@ -130,6 +138,13 @@ fn main() {
     let mut buf = [0u8; 65536];
     let mut out = [0u8; 1200000];
     run_lines(
-        &mut table, &mut area, &mut bytes, &mut list, &mut buf, &mut out,
+        &mut input,
+        &mut output,
+        &mut table,
+        &mut area,
+        &mut bytes,
+        &mut list,
+        &mut buf,
+        &mut out,
     );
 }
