@@ -19,7 +19,8 @@ ghost use Rattle.proposer.specs.Contract.{
 ghost use Rattle.proposer_area.specs.Held.{Held};
 ghost use Rattle.proposer_works.specs.Works.{answer_bytes, Worked};
 
-use messages::{Address, Answer, ROW, ROWS_AT, Refusal, Rpc};
+pub use messages::{ENTRIES_AT, KEY_AT, ROW, ROWS_AT};
+use messages::{Address, Answer, Refusal, Rpc};
 
 // The start: counter 0, nothing pending, and one given list as both lists. Refusals are 1 and 4.
 pub fn start(area: &mut [u8], places: usize, timeout: u64, list: &[u16]) -> Answer

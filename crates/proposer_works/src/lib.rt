@@ -15,7 +15,8 @@ ghost use Rattle.proposer_area.specs.Places.{place_in};
 ghost use Rattle.proposer_area.specs.Held.{Held, Pends};
 ghost use Rattle.proposer_works.specs.Works.{Asks, placed};
 
-use messages::{Address, Answer, ENTRIES_AT, Error, KEY_AT, Response, Rpc};
+pub use messages::{ENTRIES_AT, KEY_AT, ROW, ROWS_AT};
+use messages::{Address, Answer, Error, Response, Rpc};
 
 // The largest counter: no ballot is above it.
 pub const COUNTER_MOST: u64 = 18446744073709551615;
