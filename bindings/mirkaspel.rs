@@ -1,4 +1,4 @@
-//! Mirkaspel's acceptor and proposer for Rust: safe functions over libmirkaspel.a (`rt staticlib mirkaspel`, x86-64), which is to be linked
+//! Mirkaspel's acceptor and proposer for Rust: safe functions over libmirkaspel.a (`tests/build-library`, x86-64), which is to be linked
 //! (`-l static=mirkaspel`). include/mirkaspel.h says what each number, area and refusal is. The slices make sure of what that header asks of
 //! a caller: pointers that aren't null, lengths that are true, areas that don't overlap. Any bytes and numbers may be passed.
 #![allow(dead_code)]
