@@ -27,10 +27,10 @@ stored t keep = t
 stored t (put i r) = with_block t i (image r)
 
 -- the whole contract: the enum, 01's answer that it says, every byte of the table, and every byte of the answer area
-pub record Received (t : List ℕ) (n : ℕ) (a : List ℕ) (from : Address) (m : Message) (r : Answer) (t′ a' : List ℕ) : Type 0 where
+pub record Received (t : List ℕ) (n : ℕ) (a : List ℕ) (from : Address) (m : Message) (r : Answer) (t' a' : List ℕ) : Type 0 where
   pub answer : r ≡ answer_of (outcome_on t n a from m).told
   pub meaning : said r a' ≡ (outcome_on t n a from m).told
-  pub table : t′ ≡ stored t (outcome_on t n a from m).store
+  pub table : t' ≡ stored t (outcome_on t n a from m).store
   pub area : a' ≡ written_in a (outcome_on t n a from m).told
 
 -- ---- for the functions below the public one
@@ -41,6 +41,6 @@ pub record Ready (t : List ℕ) (n : ℕ) (from : Address) (m : Message) (fits :
   pub limits : fits ≡ within_limits from m
 
 -- a work done on block i of the table, if the message is within the limits
-pub record Placed (w : Work) (fits : Bool) (from : Address) (t : List ℕ) (i : ℕ) (r : Answer) (t′ : List ℕ) : Type 0 where
+pub record Placed (w : Work) (fits : Bool) (from : Address) (t : List ℕ) (i : ℕ) (r : Answer) (t' : List ℕ) : Type 0 where
   pub answer : r ≡ cond fits (answer_of (one from w.answer)) (Answer.Refused Refusal.OverLimit)
-  pub table : t′ ≡ cond (fits && w.stores) (with_block t i (image w.next)) t
+  pub table : t' ≡ cond (fits && w.stores) (with_block t i (image w.next)) t

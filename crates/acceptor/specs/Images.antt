@@ -321,13 +321,13 @@ never_damaged l from m sound h e = performed (job_of m) (passed (not (none_bad l
 -- so no message leads to refusal 2 for the next one
 pub undamaged_after : (t : List ℕ) (n : ℕ) (a b : List ℕ) (from from' : Address) (m m' : Message) → Bytes t → Proper m → Lent t n → Once (slots t n) → (outcome_on (stored t (outcome_on t n a from m).store) n b from' m').told ≡ refused Refusal.Damaged → ⊥
 unfolding outcome_on
-undamaged_after t n a b from from' m m' ht p lent h e = go (not (is_sized t′ n && eqb (length b) answer_bytes)) e
+undamaged_after t n a b from from' m m' ht p lent h e = go (not (is_sized t' n && eqb (length b) answer_bytes)) e
   where
-    t′ : List ℕ
-    t′ = stored t (outcome_on t n a from m).store
+    t' : List ℕ
+    t' = stored t (outcome_on t n a from m).store
 
-    go : (d : Bool) → (unless (first_due (test d Refusal.AreaSize ∷ [])) (receive (slots t′ n) from' m')).told ≡ refused Refusal.Damaged → ⊥
+    go : (d : Bool) → (unless (first_due (test d Refusal.AreaSize ∷ [])) (receive (slots t' n) from' m')).told ≡ refused Refusal.Damaged → ⊥
     go true e =
         let z : ◌≡◌ {A = ℕ} 0 1 = cc in
         omega arith
-    go false e = never_damaged (slots t′ n) from' m' (stays_lent t n a from m ht p lent).sound (keys_once t n a from m ht p h) e
+    go false e = never_damaged (slots t' n) from' m' (stays_lent t n a from m ht p lent).sound (keys_once t n a from m ht p h) e

@@ -68,19 +68,19 @@ module _ (t : List ℕ) (n : ℕ) (a : List ℕ) (from : Address) (m : Message) 
 -- ---- what the code does is that outcome
 
 -- an outcome that is known is received
-pub received : (t : List ℕ) (n : ℕ) (a : List ℕ) (from : Address) (m : Message) (o : Outcome) (r : Answer) (t′ a' : List ℕ) → outcome_on t n a from m ≡ o → r ≡ answer_of o.told → said r a' ≡ o.told → t′ ≡ stored t o.store → a' ≡ written_in a o.told → Received t n a from m r t′ a'
-received t n a from m o r t′ a' e er em et ea = record { answer = rw e er; meaning = rw e em; table = rw e et; area = rw e ea }
+pub received : (t : List ℕ) (n : ℕ) (a : List ℕ) (from : Address) (m : Message) (o : Outcome) (r : Answer) (t' a' : List ℕ) → outcome_on t n a from m ≡ o → r ≡ answer_of o.told → said r a' ≡ o.told → t' ≡ stored t o.store → a' ≡ written_in a o.told → Received t n a from m r t' a'
+received t n a from m o r t' a' e er em et ea = record { answer = rw e er; meaning = rw e em; table = rw e et; area = rw e ea }
 
 -- a refusal sends nothing and leaves every byte
 pub refused_by_lem : (t : List ℕ) (n : ℕ) (a : List ℕ) (from : Address) (m : Message) (x : Refusal) → outcome_on t n a from m ≡ outcome keep (refused x) → Received t n a from m (Answer.Refused x) t a
 refused_by_lem t n a from m x e = received t n a from m (outcome keep (refused x)) (Answer.Refused x) t a e refl refl refl refl
 
 -- a work on block i, which the outcome names
-placed_by : (t : List ℕ) (n : ℕ) (a : List ℕ) (from : Address) (m : Message) (w : Work) (i : ℕ) (fits : Bool) (r : Answer) (t′ a' : List ℕ) → (fits ≡ false → outcome_on t n a from m ≡ outcome keep (refused Refusal.OverLimit)) → (fits ≡ true → outcome_on t n a from m ≡ outcome (cond w.stores (put i w.next) keep) (one from w.answer)) → said (answer_of (one from w.answer)) (written_in a (one from w.answer)) ≡ one from w.answer → Placed w fits from t i r t′ → a' ≡ cond fits (written_in a (one from w.answer)) a → Received t n a from m r t′ a'
-placed_by t n a from m w i false r t′ a' over done back p ea =
+placed_by : (t : List ℕ) (n : ℕ) (a : List ℕ) (from : Address) (m : Message) (w : Work) (i : ℕ) (fits : Bool) (r : Answer) (t' a' : List ℕ) → (fits ≡ false → outcome_on t n a from m ≡ outcome keep (refused Refusal.OverLimit)) → (fits ≡ true → outcome_on t n a from m ≡ outcome (cond w.stores (put i w.next) keep) (one from w.answer)) → said (answer_of (one from w.answer)) (written_in a (one from w.answer)) ≡ one from w.answer → Placed w fits from t i r t' → a' ≡ cond fits (written_in a (one from w.answer)) a → Received t n a from m r t' a'
+placed_by t n a from m w i false r t' a' over done back p ea =
     rw (p.answer, p.table, ea) (refused_by_lem t n a from m Refusal.OverLimit (over refl))
-placed_by t n a from m w i true r t′ a' over done back p ea =
-    received t n a from m (outcome (cond w.stores (put i w.next) keep) (one from w.answer)) r t′ a' (done refl) p.answer (rw (p.answer, ea) back) (p.table ∙ by w.stores) ea
+placed_by t n a from m w i true r t' a' over done back p ea =
+    received t n a from m (outcome (cond w.stores (put i w.next) keep) (one from w.answer)) r t' a' (done refl) p.answer (rw (p.answer, ea) back) (p.table ∙ by w.stores) ea
   where
     by : (s : Bool) → cond s (with_block t i (image w.next)) t ≡ stored t (cond s (put i w.next) keep)
     by true = refl
@@ -90,18 +90,18 @@ module _ (t : List ℕ) (n : ℕ) (a : List ℕ) (from : Address) (m : Message) 
   pub twice_received : where_is j.key (slots t n) ≡ Found.Twice → Received t n a from m (Answer.Refused Refusal.Damaged) t a
   twice_received e = refused_by_lem t n a from m Refusal.Damaged (twice_outcome t n a from m j jm ready.lent la e)
 
-  module _ (i : ℕ) (r : Answer) (t′ a' : List ℕ) where
+  module _ (i : ℕ) (r : Answer) (t' a' : List ℕ) where
     -- the work on the block as it is read
     abbrev pub here : Work
     here = j.work (register_with j.key (block_at t i))
 
-    pub known_received : where_is j.key (slots t n) ≡ Found.At i → said (answer_of (one from here.answer)) (written_in a (one from here.answer)) ≡ one from here.answer → Placed here fits from t i r t′ → a' ≡ cond fits (written_in a (one from here.answer)) a → Received t n a from m r t′ a'
-    known_received e = placed_by t n a from m here i fits r t′ a'
+    pub known_received : where_is j.key (slots t n) ≡ Found.At i → said (answer_of (one from here.answer)) (written_in a (one from here.answer)) ≡ one from here.answer → Placed here fits from t i r t' → a' ≡ cond fits (written_in a (one from here.answer)) a → Received t n a from m r t' a'
+    known_received e = placed_by t n a from m here i fits r t' a'
         (λ f. over_outcome t n a from m j jm ready.lent la (Found.At i) e refl (sym ready.limits ∙ f))
         (λ f. known_outcome t n a from m j jm ready.lent la i here e (ap j.work (register_known t n j.key i ready.lent e)) (sym ready.limits ∙ f))
 
-    pub new_received : where_is j.key (slots t n) ≡ Found.Free i → said (answer_of (one from here.answer)) (written_in a (one from here.answer)) ≡ one from here.answer → Placed here fits from t i r t′ → a' ≡ cond fits (written_in a (one from here.answer)) a → Received t n a from m r t′ a'
-    new_received e = placed_by t n a from m here i fits r t′ a'
+    pub new_received : where_is j.key (slots t n) ≡ Found.Free i → said (answer_of (one from here.answer)) (written_in a (one from here.answer)) ≡ one from here.answer → Placed here fits from t i r t' → a' ≡ cond fits (written_in a (one from here.answer)) a → Received t n a from m r t' a'
+    new_received e = placed_by t n a from m here i fits r t' a'
         (λ f. over_outcome t n a from m j jm ready.lent la (Found.Free i) e refl (sym ready.limits ∙ f))
         (λ f. new_outcome t n a from m j jm ready.lent la i here e (ap j.work (sym (register_new t n j.key i ready.lent e))) (sym ready.limits ∙ f))
 
@@ -148,20 +148,20 @@ module _ (t : List ℕ) (n : ℕ) (a key : List ℕ) (from : Address) (ballot : 
   propose_full r e er =
       full_received t n a from (Message.ProposeReq ballot key) (proposal ballot key) refl fits ready la (proposed ballot (fresh key)) r (sym ef ∙ e) refl (propose_back ballot (fresh key) from a (omega arith)) refl er
 
-  module _ (i : ℕ) (r : Answer) (t′ a' : List ℕ) (p : Placed (proposed ballot (register_with key (block_at t i))) fits from t i r t′) (ea : a' ≡ cond fits (sets a 0 (bytes_of (register_of (block_at t i)).value)) a) where
+  module _ (i : ℕ) (r : Answer) (t' a' : List ℕ) (p : Placed (proposed ballot (register_with key (block_at t i))) fits from t i r t') (ea : a' ≡ cond fits (sets a 0 (bytes_of (register_of (block_at t i)).value)) a) where
     back : i < n → said (answer_of (one from (proposed ballot (register_with key (block_at t i))).answer)) (written_in a (one from (proposed ballot (register_with key (block_at t i))).answer)) ≡ one from (proposed ballot (register_with key (block_at t i))).answer
     back h =
         let b = block_at t i in
         let room = length_block t i (room_in t n key i ready.lent h) in
         propose_back ballot (register_with key b) from a (omega (arith, value_fits_lem b room (readable_in t n key i ready.lent h)))
 
-    pub propose_known : found ≡ Found.At i → Received t n a from (Message.ProposeReq ballot key) r t′ a'
+    pub propose_known : found ≡ Found.At i → Received t n a from (Message.ProposeReq ballot key) r t' a'
     propose_known e =
-        known_received t n a from (Message.ProposeReq ballot key) (proposal ballot key) refl fits ready la i r t′ a' (sym ef ∙ e) (back (place_known t n key i ready.lent (sym ef ∙ e))) p ea
+        known_received t n a from (Message.ProposeReq ballot key) (proposal ballot key) refl fits ready la i r t' a' (sym ef ∙ e) (back (place_known t n key i ready.lent (sym ef ∙ e))) p ea
 
-    pub propose_new : found ≡ Found.Free i → Received t n a from (Message.ProposeReq ballot key) r t′ a'
+    pub propose_new : found ≡ Found.Free i → Received t n a from (Message.ProposeReq ballot key) r t' a'
     propose_new e =
-        new_received t n a from (Message.ProposeReq ballot key) (proposal ballot key) refl fits ready la i r t′ a' (sym ef ∙ e) (back (place_free t n key i ready.lent (sym ef ∙ e))) p ea
+        new_received t n a from (Message.ProposeReq ballot key) (proposal ballot key) refl fits ready la i r t' a' (sym ef ∙ e) (back (place_free t n key i ready.lent (sym ef ∙ e))) p ea
 
 -- an area that a choice leaves either way
 kept : (a : List ℕ) (f : Bool) → a ≡ cond f a a
@@ -176,14 +176,14 @@ module _ (t : List ℕ) (n : ℕ) (a key : List ℕ) (o : Option Value) (from : 
   accept_full r e er =
       full_received t n a from (Message.AcceptReq ballot key o) (acceptance ballot key o) refl fits ready la (accepted ballot o (fresh key)) r (sym ef ∙ e) refl (accept_back ballot o (fresh key) from a) refl (er ∙ rw (le-ltb ballot.0 0 (omega arith)))
 
-  module _ (i : ℕ) (r : Answer) (t′ : List ℕ) (p : Placed (accepted ballot o (register_with key (block_at t i))) fits from t i r t′) where
-    pub accept_known : found ≡ Found.At i → Received t n a from (Message.AcceptReq ballot key o) r t′ a
+  module _ (i : ℕ) (r : Answer) (t' : List ℕ) (p : Placed (accepted ballot o (register_with key (block_at t i))) fits from t i r t') where
+    pub accept_known : found ≡ Found.At i → Received t n a from (Message.AcceptReq ballot key o) r t' a
     accept_known e =
-        known_received t n a from (Message.AcceptReq ballot key o) (acceptance ballot key o) refl fits ready la i r t′ a (sym ef ∙ e) (accept_back ballot o (register_with key (block_at t i)) from a) p (kept a fits)
+        known_received t n a from (Message.AcceptReq ballot key o) (acceptance ballot key o) refl fits ready la i r t' a (sym ef ∙ e) (accept_back ballot o (register_with key (block_at t i)) from a) p (kept a fits)
 
-    pub accept_new : found ≡ Found.Free i → Received t n a from (Message.AcceptReq ballot key o) r t′ a
+    pub accept_new : found ≡ Found.Free i → Received t n a from (Message.AcceptReq ballot key o) r t' a
     accept_new e =
-        new_received t n a from (Message.AcceptReq ballot key o) (acceptance ballot key o) refl fits ready la i r t′ a (sym ef ∙ e) (accept_back ballot o (register_with key (block_at t i)) from a) p (kept a fits)
+        new_received t n a from (Message.AcceptReq ballot key o) (acceptance ballot key o) refl fits ready la i r t' a (sym ef ∙ e) (accept_back ballot o (register_with key (block_at t i)) from a) p (kept a fits)
 
 -- ---- what the functions below ask
 

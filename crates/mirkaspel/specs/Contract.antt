@@ -11,8 +11,8 @@ pub record Numbered (P : Answer → Type 0) (r : ℕ) : Type 0 where
   pub number : r ≡ refusal_of answer
 
 -- what an exported operation hands back where the party's operation answers: its number r and the numbers w' of the answer
-pub record HandedBack (P : Answer → Type 0) (w : List ℕ) (r : ℕ) (w′ : List ℕ) : Type 0 where
+pub record HandedBack (P : Answer → Type 0) (w : List ℕ) (r : ℕ) (w' : List ℕ) : Type 0 where
   pub answer : Answer
   pub meets : P answer
   pub number : r ≡ refusal_of answer
-  pub numbers : w′ ≡ numbers_after w answer
+  pub numbers : w' ≡ numbers_after w answer

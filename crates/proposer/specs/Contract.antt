@@ -45,10 +45,10 @@ area_after a (refused r) s = a
 
 -- ---- the whole contract: the enum, every byte of the area, and every byte of the answer area
 
-pub record Done (a w : List ℕ) (o : Outcome) (r : Answer) (a' w′ : List ℕ) : Type 0 where
+pub record Done (a w : List ℕ) (o : Outcome) (r : Answer) (a' w' : List ℕ) : Type 0 where
   pub answer : r ≡ answer_of o.told
   pub area : a' ≡ area_after a o.told o.state
-  pub written : w′ ≡ written_in w o.told
+  pub written : w' ≡ written_in w o.told
 
 -- a start is lent no answer area
 pub record Started (a : List ℕ) (o : Outcome) (r : Answer) (a' : List ℕ) : Type 0 where

@@ -47,17 +47,17 @@ area_kept a s o image keeps = by o.told (λ r e. ap area_image (keeps.keeps r e)
     by (timeouts rs) h = refl
     by (refused r) h = h r refl
 
-module _ (a w : List ℕ) (n : ℕ) (s d : Bool) (es : s ≡ sized a n) (sizes : s ≡ true) (size : length w ≡ answer_bytes n) (ed : d ≡ is_image a n) (image : d ≡ true) (held : Held a n) (r : Answer) (a' w′ : List ℕ) where
-  done : (o : Outcome) → Keeps (read_area a n) o → Worked w o r a' w′ → Done a w (unless (first_due (area_tests a n w)) (read_area a n) o) r a' w′
+module _ (a w : List ℕ) (n : ℕ) (s d : Bool) (es : s ≡ sized a n) (sizes : s ≡ true) (size : length w ≡ answer_bytes n) (ed : d ≡ is_image a n) (image : d ≡ true) (held : Held a n) (r : Answer) (a' w' : List ℕ) where
+  done : (o : Outcome) → Keeps (read_area a n) o → Worked w o r a' w' → Done a w (unless (first_due (area_tests a n w)) (read_area a n) o) r a' w'
   done o keeps h =
       let passed : first_due (area_tests a n w) ≡ none = rw (sym es ∙ sizes, eq-eqb (length w) (answer_bytes n) size, sym ed ∙ image) in
       rw passed record { answer = h.answer; area = h.area ∙ area_kept a (read_area a n) o held.image keeps; written = h.written }
 
-  pub received : (from : Address) (at : ℕ) (m : Message) → Worked w (receive (read_area a n) from at m) r a' w′ → Done a w (outcome_on a n w from at m) r a' w′
+  pub received : (from : Address) (at : ℕ) (m : Message) → Worked w (receive (read_area a n) from at m) r a' w' → Done a w (outcome_on a n w from at m) r a' w'
   unfolding outcome_on
   received from at m h = done (receive (read_area a n) from at m) (message_keeps (read_area a n) from at m) h
 
-  pub ticked : (t : ℕ) → Worked w (tick (read_area a n) t) r a' w′ → Done a w (tick_on a n w t) r a' w′
+  pub ticked : (t : ℕ) → Worked w (tick (read_area a n) t) r a' w' → Done a w (tick_on a n w t) r a' w'
   unfolding tick_on
   ticked t h = done (tick (read_area a n) t) (tick_keeps (read_area a n) t) h
 
@@ -95,6 +95,6 @@ module _ (a w : List ℕ) (n : ℕ) (from : Address) (at : ℕ) (m : Message) (h
       by true e = wrong_kind e
       by false e = over_limit fits e ef over
 
-  pub taken_in_lem : (fits : Bool) (r : Answer) (a' w′ : List ℕ) → foreign m ≡ false → fits ≡ within_limits from m → fits ≡ true → Worked w (work (read_area a n) from at m) r a' w′ → Worked w (receive (read_area a n) from at m) r a' w′
+  pub taken_in_lem : (fits : Bool) (r : Answer) (a' w' : List ℕ) → foreign m ≡ false → fits ≡ within_limits from m → fits ≡ true → Worked w (work (read_area a n) from at m) r a' w' → Worked w (receive (read_area a n) from at m) r a' w'
   unfolding receive
-  taken_in_lem fits r a' w′ own ef within h = due_none w (read_area a n) (first_due (message_tests from m)) (work (read_area a n) from at m) r a' w′ (rw (own, sym ef ∙ within)) h
+  taken_in_lem fits r a' w' own ef within h = due_none w (read_area a n) (first_due (message_tests from m)) (work (read_area a n) from at m) r a' w' (rw (own, sym ef ∙ within)) h

@@ -216,15 +216,15 @@ tick_speaks w n size s ok t =
 -- ---- so for every call on an area that is an image
 
 module _ (a w : List ℕ) (n : ℕ) (bytes : Bytes a) (image : is_image a n ≡ true) (size : length w ≡ answer_bytes n) where
-  pub received_said : (from : Address) (at : ℕ) (m : Message) (r : Answer) (a' w′ : List ℕ) → from.0 < 2 ^ 16 → at < 2 ^ 64 → TypedMessage m → Done a w (outcome_on a n w from at m) r a' w′ → said r w′ ≡ (outcome_on a n w from at m).told
+  pub received_said : (from : Address) (at : ℕ) (m : Message) (r : Answer) (a' w' : List ℕ) → from.0 < 2 ^ 16 → at < 2 ^ 64 → TypedMessage m → Done a w (outcome_on a n w from at m) r a' w' → said r w' ≡ (outcome_on a n w from at m).told
   unfolding outcome_on
-  received_said from at m r a' w′ from-fits at-fits typed done =
+  received_said from at m r a' w' from-fits at-fits typed done =
       rw (done.answer, done.written)
       (unless_speaks w (first_due (area_tests a n w)) (read_area a n) (receive (read_area a n) from at m)
       (λ due. message_speaks w n size (read_area a n) (lendable_read a w n bytes image) from from-fits at at-fits m typed)).speaks
 
-  pub ticked_said : (t : ℕ) (r : Answer) (a' w′ : List ℕ) → Done a w (tick_on a n w t) r a' w′ → said r w′ ≡ (tick_on a n w t).told
+  pub ticked_said : (t : ℕ) (r : Answer) (a' w' : List ℕ) → Done a w (tick_on a n w t) r a' w' → said r w' ≡ (tick_on a n w t).told
   unfolding tick_on
-  ticked_said t r a' w′ done =
+  ticked_said t r a' w' done =
       rw (done.answer, done.written)
       (unless_speaks w (first_due (area_tests a n w)) (read_area a n) (tick (read_area a n) t) (λ due. tick_speaks w n size (read_area a n) (lendable_read a w n bytes image) t)).speaks

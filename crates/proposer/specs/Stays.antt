@@ -583,17 +583,17 @@ module _ (a w : List ℕ) (n : ℕ) (bytes : Bytes a) (image : is_image a n ≡ 
   image_next s' next (each l m) = image_is s' n next.lendable.lawful size.least size.most next.lendable.lent
   image_next s' next (timeouts rs) = image_is s' n next.lendable.lawful size.least size.most next.lendable.lent
 
-  pub received_image : (from : Address) (at : ℕ) (m : Message) (r : Answer) (a' w′ : List ℕ) → from.0 < 2 ^ 16 → at < 2 ^ 64 → TypedMessage m → Done a w (outcome_on a n w from at m) r a' w′ → is_image a' n ≡ true
+  pub received_image : (from : Address) (at : ℕ) (m : Message) (r : Answer) (a' w' : List ℕ) → from.0 < 2 ^ 16 → at < 2 ^ 64 → TypedMessage m → Done a w (outcome_on a n w from at m) r a' w' → is_image a' n ≡ true
   unfolding outcome_on
-  received_image from at m r a' w′ from-fits at-fits typed done =
+  received_image from at m r a' w' from-fits at-fits typed done =
       ap (λ (u : List ℕ). is_image u n) done.area
       ∙ image_next (outcome_on a n w from at m).state
       (unless_next (read_area a n) n (first_due (area_tests a n w)) (receive (read_area a n) from at m) lendable_read (λ due. message_next (read_area a n) n lendable_read from at from-fits at-fits m typed))
       (outcome_on a n w from at m).told
 
-  pub ticked_image : (t : ℕ) (r : Answer) (a' w′ : List ℕ) → Done a w (tick_on a n w t) r a' w′ → is_image a' n ≡ true
+  pub ticked_image : (t : ℕ) (r : Answer) (a' w' : List ℕ) → Done a w (tick_on a n w t) r a' w' → is_image a' n ≡ true
   unfolding tick_on
-  ticked_image t r a' w′ done =
+  ticked_image t r a' w' done =
       ap (λ (u : List ℕ). is_image u n) done.area
       ∙ image_next (tick_on a n w t).state
       (unless_next (read_area a n) n (first_due (area_tests a n w)) (tick (read_area a n) t) lendable_read (λ due. tick_next (read_area a n) n t lendable_read))

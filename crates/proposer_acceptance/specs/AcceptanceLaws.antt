@@ -175,10 +175,10 @@ module _ (a w : List ℕ) (n i : ℕ) (ballot : Ballot) (f : Front) (from : Addr
         sender_passes : (rest : Option Refusal) → pick_first (first_phase pending.phase) Refusal.FirstPhase (pick_first (listed from.0 pending.acks_from || listed from.0 pending.nacks_from) Refusal.Repeated (pick_first (not (listed from.0 pending.waiting_for)) Refusal.NotWaitedFor rest)) ≡ rest
         sender_passes rest = past_first _ ∙ rw (sym ea ∙ not_yet, sym ew ∙ there)
 
-        pub acceptance_handed : (res : Result) (r : Answer) (a' w′ : List ℕ) → foreign_acceptance res ≡ false → Worked w (acceptance_work now_state pending from res) r a' w′ → Worked w (on_acceptance now_state (pending_at ballot now_state.places) from res) r a' w′
-        acceptance_handed res r a' w′ own h =
-            subst (λ (o : Outcome). Worked w o r a' w′) (sym (in_second_lem res))
-            (due_none w now_state (first_due (acceptance_tests pending from res)) (acceptance_work now_state pending from res) r a' w′ (sender_passes _ ∙ rw own) h)
+        pub acceptance_handed : (res : Result) (r : Answer) (a' w' : List ℕ) → foreign_acceptance res ≡ false → Worked w (acceptance_work now_state pending from res) r a' w' → Worked w (on_acceptance now_state (pending_at ballot now_state.places) from res) r a' w'
+        acceptance_handed res r a' w' own h =
+            subst (λ (o : Outcome). Worked w o r a' w') (sym (in_second_lem res))
+            (due_none w now_state (first_due (acceptance_tests pending from res)) (acceptance_work now_state pending from res) r a' w' (sender_passes _ ∙ rw own) h)
 
         pub acceptance_foreign : (res : Result) → foreign_acceptance res ≡ true → Worked w (on_acceptance now_state (pending_at ballot now_state.places) from res) (Answer.Refused Refusal.ForeignError) a w
         acceptance_foreign res strange = refused res Refusal.ForeignError (sender_passes _ ∙ rw strange)

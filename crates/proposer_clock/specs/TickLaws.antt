@@ -83,24 +83,24 @@ length-rows_of (p ∷ l) = ap suc (length-rows_of l)
 -- ---- the loop
 
 -- after k rows: what is left to drop and to tell gives what the rules drop and tell
-pub record Expiring (a w : List ℕ) (n t k : ℕ) (a' w′ : List ℕ) : Type 0 where
+pub record Expiring (a w : List ℕ) (n t k : ℕ) (a' w' : List ℕ) : Type 0 where
   pub held : Held a' n
   pub same : read_area a' n ≡ moved (read_area a n) (read_area a n).counter (read_area a' n).places
   pub kept : in_time (read_area a n) t (read_area a' n).places ≡ in_time (read_area a n) t (read_area a n).places
   pub count : k + length (late_ones (read_area a n) t (read_area a' n).places) ≡ length (late_ones (read_area a n) t (read_area a n).places)
-  pub rows : sets w′ (rows_at + row_bytes * k) (rows_bytes (rows_of (late_ones (read_area a n) t (read_area a' n).places))) ≡ sets w rows_at (rows_bytes (rows_of (late_ones (read_area a n) t (read_area a n).places)))
-  pub size : length w′ ≡ answer_bytes n
+  pub rows : sets w' (rows_at + row_bytes * k) (rows_bytes (rows_of (late_ones (read_area a n) t (read_area a' n).places))) ≡ sets w rows_at (rows_bytes (rows_of (late_ones (read_area a n) t (read_area a n).places)))
+  pub size : length w' ≡ answer_bytes n
 
 pub expire_begins : (a w : List ℕ) (n t : ℕ) → Held a n → length w ≡ answer_bytes n → Expiring a w n t 0 a w
 expire_begins a w n t held size = record { held = held; same = refl; kept = refl; count = omega arith; rows = refl; size = size }
 
 -- what the loop leaves in the end
-pub record Expired (a w : List ℕ) (n t k : ℕ) (a' w′ : List ℕ) : Type 0 where
+pub record Expired (a w : List ℕ) (n t k : ℕ) (a' w' : List ℕ) : Type 0 where
   pub told : k ≡ length (late_ones (read_area a n) t (read_area a n).places)
   pub area : a' ≡ area_image (moved (read_area a n) (read_area a n).counter (in_time (read_area a n) t (read_area a n).places))
-  pub rows : w′ ≡ sets w rows_at (rows_bytes (rows_of (late_ones (read_area a n) t (read_area a n).places)))
+  pub rows : w' ≡ sets w rows_at (rows_bytes (rows_of (late_ones (read_area a n) t (read_area a n).places)))
 
-module _ (a w : List ℕ) (n t k : ℕ) (a' w′ : List ℕ) (here : Expiring a w n t k a' w′) where
+module _ (a w : List ℕ) (n t k : ℕ) (a' w' : List ℕ) (here : Expiring a w n t k a' w') where
   abbrev s : Proposer
   s = read_area a n
 
@@ -111,7 +111,7 @@ module _ (a w : List ℕ) (n t k : ℕ) (a' w′ : List ℕ) (here : Expiring a 
   timeout_same = ap (λ (x : Proposer). x.timeout) here.same
 
   -- nothing more is late
-  none_left : late_ones now_s t now_s.places ≡ [] → in_time now_s t now_s.places ≡ now_s.places → Expired a w n t k a' w′
+  none_left : late_ones now_s t now_s.places ≡ [] → in_time now_s t now_s.places ≡ now_s.places → Expired a w n t k a' w'
   unfolding rows_of rows_bytes
   none_left nothing_late all-kept =
       let nothing-now : late_ones s t now_s.places ≡ [] = sym (ones_same now_s s t timeout_same now_s.places) ∙ nothing_late in
@@ -124,14 +124,14 @@ module _ (a w : List ℕ) (n t k : ℕ) (a' w′ : List ℕ) (here : Expiring a 
         rows = rw nothing-now at here.rows;
       }
 
-  pub expire_ends : (i : ℕ) → i ≡ late_of now_s t (read_places a' header_bytes n) → i ≡ n → Expired a w n t k a' w′
+  pub expire_ends : (i : ℕ) → i ≡ late_of now_s t (read_places a' header_bytes n) → i ≡ n → Expired a w n t k a' w'
   unfolding read_area
   expire_ends i ei e =
       let nobody = late_none now_s t now_s.places (sym ei ∙ e ∙ sym here.held.lawful.full) in
       none_left nobody.nothing nobody.kept
 
   -- where as many rows are told as there are places, nothing more is late
-  pub expire_full : k ≡ n → Expired a w n t k a' w′
+  pub expire_full : k ≡ n → Expired a w n t k a' w'
   unfolding read_area
   expire_full e =
       let all : length (late_ones s t s.places) ≤ n = omega (arith, length_late s t s.places, length_read a header_bytes n) in
@@ -144,7 +144,7 @@ module _ (a w : List ℕ) (n t k : ℕ) (a' w′ : List ℕ) (here : Expiring a 
       ]
 
   -- one more row
-  pub expire_goes_on : (i : ℕ) (f : Front) (a₁ w₁ : List ℕ) → i ≡ late_of now_s t (read_places a' header_bytes n) → i < n → f ≡ front_of (read_pending (place_in a' i)) → w₁ ≡ sets w′ (rows_at + row_bytes * k) (rows_bytes (record { client = f.client; id = f.id } ∷ [])) → a₁ ≡ sets a' (place_at i) (place_image none) → Expiring a w n t (suc k) a₁ w₁
+  pub expire_goes_on : (i : ℕ) (f : Front) (a₁ w₁ : List ℕ) → i ≡ late_of now_s t (read_places a' header_bytes n) → i < n → f ≡ front_of (read_pending (place_in a' i)) → w₁ ≡ sets w' (rows_at + row_bytes * k) (rows_bytes (record { client = f.client; id = f.id } ∷ [])) → a₁ ≡ sets a' (place_at i) (place_image none) → Expiring a w n t (suc k) a₁ w₁
   unfolding read_area front_of rows_of
   expire_goes_on i f a₁ w₁ ei within ef ew ea =
       let l = now_s.places in
@@ -172,10 +172,10 @@ module _ (a w : List ℕ) (n t k : ℕ) (a' w′ : List ℕ) (here : Expiring a 
         rows =
             rw places_back
             (ap (λ (u : List ℕ). sets u (rows_at + row_bytes * suc k) (rows_bytes (rows_of (late_ones s t l₁)))) ew
-            ∙ sets_join w′ (rows_bytes (row ∷ [])) (rows_bytes (rows_of (late_ones s t l₁))) (rows_at + row_bytes * k) (rows_at + row_bytes * suc k) (omega (arith, length_rows (row ∷ [])))
-            ∙ ap (λ (u : List ℕ). sets w′ (rows_at + row_bytes * k) u) (sym (rows_more row (rows_of (late_ones s t l₁))) ∙ ap (λ (r : Row). rows_bytes (r ∷ rows_of (late_ones s t l₁))) told-row ∙ ap (λ (ps : List Pending). rows_bytes (rows_of ps)) (sym first))
+            ∙ sets_join w' (rows_bytes (row ∷ [])) (rows_bytes (rows_of (late_ones s t l₁))) (rows_at + row_bytes * k) (rows_at + row_bytes * suc k) (omega (arith, length_rows (row ∷ [])))
+            ∙ ap (λ (u : List ℕ). sets w' (rows_at + row_bytes * k) u) (sym (rows_more row (rows_of (late_ones s t l₁))) ∙ ap (λ (r : Row). rows_bytes (r ∷ rows_of (late_ones s t l₁))) told-row ∙ ap (λ (ps : List Pending). rows_bytes (rows_of ps)) (sym first))
             ∙ here.rows);
-        size = ap length ew ∙ length-sets w′ (rows_at + row_bytes * k) (rows_bytes (row ∷ [])) ∙ here.size;
+        size = ap length ew ∙ length-sets w' (rows_at + row_bytes * k) (rows_bytes (row ∷ [])) ∙ here.size;
       }
 
 -- ---- the tick
@@ -195,8 +195,8 @@ unfolding rows_of rows_bytes
 written_rows w [] = refl
 written_rows w (p ∷ l) = refl
 
-module _ (a w : List ℕ) (n t k : ℕ) (back : Bool) (a' w′ : List ℕ) (e : back ≡ clock_back t (read_places a header_bytes n)) (ahead : back ≡ false) (done : Expired a w n t k a' w′) where
-  ticked : Worked w (tick (read_area a n) t) (cond (eqb k 0) Answer.Nothing (Answer.Timeouts k)) a' w′
+module _ (a w : List ℕ) (n t k : ℕ) (back : Bool) (a' w' : List ℕ) (e : back ≡ clock_back t (read_places a header_bytes n)) (ahead : back ≡ false) (done : Expired a w n t k a' w') where
+  ticked : Worked w (tick (read_area a n) t) (cond (eqb k 0) Answer.Nothing (Answer.Timeouts k)) a' w'
   unfolding tick read_area
   ticked =
       rw (sym e ∙ ahead)
@@ -206,8 +206,8 @@ module _ (a w : List ℕ) (n t k : ℕ) (back : Bool) (a' w′ : List ℕ) (e : 
         written = done.rows ∙ written_rows w (late_ones (read_area a n) t (read_area a n).places);
       }
 
-  pub tick_nothing : k ≡ 0 → Worked w (tick (read_area a n) t) Answer.Nothing a' w′
-  tick_nothing z = subst (λ (r : Answer). Worked w (tick (read_area a n) t) r a' w′) (rw z) ticked
+  pub tick_nothing : k ≡ 0 → Worked w (tick (read_area a n) t) Answer.Nothing a' w'
+  tick_nothing z = subst (λ (r : Answer). Worked w (tick (read_area a n) t) r a' w') (rw z) ticked
 
-  pub tick_told : (k ≡ 0 → ⊥) → Worked w (tick (read_area a n) t) (Answer.Timeouts k) a' w′
-  tick_told some-late = subst (λ (r : Answer). Worked w (tick (read_area a n) t) r a' w′) (rw (ne_eqb k 0 some-late)) ticked
+  pub tick_told : (k ≡ 0 → ⊥) → Worked w (tick (read_area a n) t) (Answer.Timeouts k) a' w'
+  tick_told some-late = subst (λ (r : Answer). Worked w (tick (read_area a n) t) r a' w') (rw (ne_eqb k 0 some-late)) ticked

@@ -286,17 +286,17 @@ module _ (p : Pending) (ok : Lawful p) where
 
   -- the lists cleared, and a list written there
   module _ (l : List ℕ) (m : ℕ) (full : length l ≡ 2 * m) (few : m ≤ list_most) (bytes : Bytes l) where
-    abbrev w′ : List ℕ
-    w′ = list_row (entries l 0 m)
+    abbrev w' : List ℕ
+    w' = list_row (entries l 0 m)
 
     abbrev z : List ℕ
     z = replicate list_bytes 0
 
-    list_row_lem : sets z 0 l ≡ w′
+    list_row_lem : sets z 0 l ≡ w'
     unfolding list_row
     list_row_lem = sets_zeros list_bytes l (omega arith) ∙ ap (padded list_bytes) (sym (entries_whole l m full bytes))
 
-    list_sized : length w′ ≡ list_bytes
+    list_sized : length w' ≡ list_bytes
     list_sized = length_list (entries l 0 m) (omega (arith, entries-length l 0 m))
 
     pub second_entered : sets (sets (put_mid waited_at 90 (place_image (some p)) (replicate 90 0)) waited_at l) 0 (place_front (second_phase (entries l 0 m) p)) ≡ place_image (some (second_phase (entries l 0 m) p))
@@ -304,12 +304,12 @@ module _ (p : Pending) (ok : Lawful p) where
         let p' = second_phase (entries l 0 m) p in
         let g = place_front p' in
         let s₀ : Sized f z z z k v promised_row = record { front = size.front; waited = refl; yeses = refl; noes = refl; key = size.key; values = size.values; promised = size.promised } in
-        let s₁ : Sized f w′ z z k v promised_row = record { front = size.front; waited = list_sized; yeses = refl; noes = refl; key = size.key; values = size.values; promised = size.promised } in
+        let s₁ : Sized f w' z z k v promised_row = record { front = size.front; waited = list_sized; yeses = refl; noes = refl; key = size.key; values = size.values; promised = size.promised } in
         ap (λ (r : List ℕ). sets (sets (put_mid waited_at 90 r (replicate 90 0)) waited_at l) 0 g) (image_rows p)
         ∙ ap (λ (r : List ℕ). sets (sets r waited_at l) 0 g) (cleared_lists f w y n k v promised_row size)
         ∙ ap (λ (r : List ℕ). sets r 0 g) (into_waited f z z z k v promised_row s₀ l waited_at 0 refl (omega arith) ∙ ap (λ (r : List ℕ). full_rows f r z z k v promised_row) list_row_lem)
-        ∙ into_front f w′ z z k v promised_row s₁ g (length-place_front p')
-        ∙ ap (λ (r : List ℕ). full_rows g w′ r r k v promised_row) (sym nobody)
+        ∙ into_front f w' z z k v promised_row s₁ g (length-place_front p')
+        ∙ ap (λ (r : List ℕ). full_rows g w' r r k v promised_row) (sym nobody)
         ∙ sym (image_rows p')
 
     pub again_entered : (b : Ballot) → sets (sets (put_mid promised_value_at 256 (put_mid waited_at 90 (place_image (some p)) (replicate 90 0)) (replicate 256 0)) waited_at l) 0 (place_front (asked_again b (entries l 0 m) p)) ≡ place_image (some (asked_again b (entries l 0 m) p))
@@ -319,14 +319,14 @@ module _ (p : Pending) (ok : Lawful p) where
         let zeros : List ℕ = replicate value_most 0 in
         let s₀ : Sized f z z z k v promised_row = record { front = size.front; waited = refl; yeses = refl; noes = refl; key = size.key; values = size.values; promised = size.promised } in
         let s₁ : Sized f z z z k v zeros = record { front = size.front; waited = refl; yeses = refl; noes = refl; key = size.key; values = size.values; promised = refl } in
-        let s₂ : Sized f w′ z z k v zeros = record { front = size.front; waited = list_sized; yeses = refl; noes = refl; key = size.key; values = size.values; promised = refl } in
+        let s₂ : Sized f w' z z k v zeros = record { front = size.front; waited = list_sized; yeses = refl; noes = refl; key = size.key; values = size.values; promised = refl } in
         ap (λ (r : List ℕ). sets (sets (put_mid promised_value_at 256 (put_mid waited_at 90 r (replicate 90 0)) zeros) waited_at l) 0 g) (image_rows p)
         ∙ ap (λ (r : List ℕ). sets (sets (put_mid promised_value_at 256 r zeros) waited_at l) 0 g) (cleared_lists f w y n k v promised_row size)
         ∙ ap (λ (r : List ℕ). sets (sets r waited_at l) 0 g) (cleared_promised f z z z k v promised_row s₀)
         ∙ ap (λ (r : List ℕ). sets r 0 g) (into_waited f z z z k v zeros s₁ l waited_at 0 refl (omega arith) ∙ ap (λ (r : List ℕ). full_rows f r z z k v zeros) list_row_lem)
-        ∙ into_front f w′ z z k v zeros s₂ g (length-place_front p')
-        ∙ ap (λ (r : List ℕ). full_rows g w′ r r k v zeros) (sym nobody)
-        ∙ ap (full_rows g w′ (list_row []) (list_row []) k v) (sym nothing_promised)
+        ∙ into_front f w' z z k v zeros s₂ g (length-place_front p')
+        ∙ ap (λ (r : List ℕ). full_rows g w' r r k v zeros) (sym nobody)
+        ∙ ap (full_rows g w' (list_row []) (list_row []) k v) (sym nothing_promised)
         ∙ sym (image_rows p')
 
 -- ---- a used place

@@ -164,15 +164,15 @@ module _ (a w : List ℕ) (n i : ℕ) (ballot : Ballot) (f : Front) (from : Addr
         sender_passes : (rest : Option Refusal) → pick_first (listed from.0 p.acks_from || listed from.0 p.nacks_from) Refusal.Repeated (pick_first (not (listed from.0 p.waiting_for)) Refusal.NotWaitedFor rest) ≡ rest
         sender_passes rest = rw (sym ea ∙ not_yet, sym ew ∙ there)
 
-        handed_on : (res : Result) (rest : Option Refusal) (r : Answer) (a' w′ : List ℕ) → first_due (promise_tests state p from res) ≡ rest → Worked w (unless rest state (promise_work state p from b v res)) r a' w′ → Worked w (on_promise state (pending_at ballot state.places) from b v res) r a' w′
-        handed_on res rest r a' w′ e h =
-            subst (λ (o : Outcome). Worked w o r a' w′) (sym (in_first_lem res ∙ ap (λ (t : Option Refusal). unless t state (promise_work state p from b v res)) e)) h
+        handed_on : (res : Result) (rest : Option Refusal) (r : Answer) (a' w' : List ℕ) → first_due (promise_tests state p from res) ≡ rest → Worked w (unless rest state (promise_work state p from b v res)) r a' w' → Worked w (on_promise state (pending_at ballot state.places) from b v res) r a' w'
+        handed_on res rest r a' w' e h =
+            subst (λ (o : Outcome). Worked w o r a' w') (sym (in_first_lem res ∙ ap (λ (t : Option Refusal). unless t state (promise_work state p from b v res)) e)) h
 
-        pub promise_ok : (r : Answer) (a' w′ : List ℕ) → Worked w (granting state p from b v) r a' w′ → Worked w (on_promise state (pending_at ballot state.places) from b v Result.Ok) r a' w′
-        promise_ok r a' w′ h = handed_on Result.Ok _ r a' w′ (sender_passes _) h
+        pub promise_ok : (r : Answer) (a' w' : List ℕ) → Worked w (granting state p from b v) r a' w' → Worked w (on_promise state (pending_at ballot state.places) from b v Result.Ok) r a' w'
+        promise_ok r a' w' h = handed_on Result.Ok _ r a' w' (sender_passes _) h
 
-        pub promise_rejected : (last : Ballot) (r : Answer) (a' w′ : List ℕ) → Worked w (rejecting state p from last b v) r a' w′ → Worked w (on_promise state (pending_at ballot state.places) from b v (Result.Err (Failure.ProposalRejected last))) r a' w′
-        promise_rejected last r a' w′ h = handed_on (Result.Err (Failure.ProposalRejected last)) _ r a' w′ (sender_passes _) h
+        pub promise_rejected : (last : Ballot) (r : Answer) (a' w' : List ℕ) → Worked w (rejecting state p from last b v) r a' w' → Worked w (on_promise state (pending_at ballot state.places) from b v (Result.Err (Failure.ProposalRejected last))) r a' w'
+        promise_rejected last r a' w' h = handed_on (Result.Err (Failure.ProposalRejected last)) _ r a' w' (sender_passes _) h
 
         pub promise_foreign : (e : Failure) → foreign_promise (Result.Err e) ≡ true → Worked w (on_promise state (pending_at ballot state.places) from b v (Result.Err e)) (Answer.Refused Refusal.ForeignError) a w
         promise_foreign e strange = first_refused (Result.Err e) Refusal.ForeignError (sender_passes _ ∙ rw strange)

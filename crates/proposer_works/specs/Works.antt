@@ -32,10 +32,10 @@ pub record Asks (a : List ℕ) (n i : ℕ) : Type 0 where
 -- ---- what it does
 
 -- the enum, every byte of the area, and every byte of the answer area
-pub record Worked (w : List ℕ) (o : Outcome) (r : Answer) (a' w′ : List ℕ) : Type 0 where
+pub record Worked (w : List ℕ) (o : Outcome) (r : Answer) (a' w' : List ℕ) : Type 0 where
   pub answer : r ≡ answer_of o.told
   pub area : a' ≡ area_image o.state
-  pub written : w′ ≡ written_in w o.told
+  pub written : w' ≡ written_in w o.told
 
 -- the state with another counter and other content of place i
 abbrev pub placed : Proposer → ℕ → ℕ → Option Pending → Proposer

@@ -19,5 +19,5 @@ refused_work a w s t o r image e =
     }
 
 -- and where none is due the work is the rules'
-pub due_none : (w : List ℕ) (s : Proposer) (t : Option Refusal) (o : Outcome) (r : Answer) (a' w′ : List ℕ) → t ≡ none → Worked w o r a' w′ → Worked w (unless t s o) r a' w′
-due_none w s t o r a' w′ e h = rw e h
+pub due_none : (w : List ℕ) (s : Proposer) (t : Option Refusal) (o : Outcome) (r : Answer) (a' w' : List ℕ) → t ≡ none → Worked w o r a' w' → Worked w (unless t s o) r a' w'
+due_none w s t o r a' w' e h = rw e h

@@ -26,11 +26,11 @@ quiet s u r t a out h e f k =
     rw f (record { run = refl; table = refl; area = refl; put = p; held = k })
 
 -- one of two outcomes, by a test
-pub first_of : (s r : Run) (out t′ a' out' : List ℕ) (p : Bool) (x y : Ran) → p ≡ true → Stepped s out x r t′ a' out' → Stepped s out (cond p x y) r t′ a' out'
-first_of s r out t′ a' out' p x y e k = rw e k
+pub first_of : (s r : Run) (out t' a' out' : List ℕ) (p : Bool) (x y : Ran) → p ≡ true → Stepped s out x r t' a' out' → Stepped s out (cond p x y) r t' a' out'
+first_of s r out t' a' out' p x y e k = rw e k
 
-pub second_of : (s r : Run) (out t′ a' out' : List ℕ) (p : Bool) (x y : Ran) → p ≡ false → Stepped s out y r t′ a' out' → Stepped s out (cond p x y) r t′ a' out'
-second_of s r out t′ a' out' p x y e k = rw e k
+pub second_of : (s r : Run) (out t' a' out' : List ℕ) (p : Bool) (x y : Ran) → p ≡ false → Stepped s out y r t' a' out' → Stepped s out (cond p x y) r t' a' out'
+second_of s r out t' a' out' p x y e k = rw e k
 
 -- the first n elements were lent, and ys came back
 pub back : (l ys : List ℕ) (n : ℕ) → put_mid 0 (n - 0) l ys ≡ lent_back l n ys

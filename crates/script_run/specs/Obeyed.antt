@@ -100,9 +100,9 @@ message_on true t n a from at m = by_proposer t a (Proposer.outcome_on t n a fro
 message_on false t n a from at m = by_acceptor t a (Acceptor.outcome_on t n a from m)
 
 -- a party's answer and what it leaves of the two areas
-pub record Gave (h : Heard) (r : Answer) (t′ a' : List ℕ) : Type 0 where
+pub record Gave (h : Heard) (r : Answer) (t' a' : List ℕ) : Type 0 where
   pub answer : r ≡ answer_of h.told
-  pub lent : t′ ≡ h.lent
+  pub lent : t' ≡ h.lent
   pub area : a' ≡ h.area
 
 -- the run after a party was heard
@@ -198,9 +198,9 @@ abbrev pub Held : Run → List ℕ → List ℕ → List ℕ → Type 0
 Held s table area out = (s.bytes ≤ length table) × (s.reach ≤ length table) × (s.area ≤ length area) × (s.at ≤ length out)
 
 -- the run stands where the outcome says, every byte of the areas is the outcome's, and its text is put behind what stood in the output
-pub record Stepped (s : Run) (out : List ℕ) (o : Ran) (r : Run) (t′ a' out' : List ℕ) : Type 0 where
+pub record Stepped (s : Run) (out : List ℕ) (o : Ran) (r : Run) (t' a' out' : List ℕ) : Type 0 where
   pub run : r ≡ put_up_to o.run r.at
-  pub table : t′ ≡ o.table
+  pub table : t' ≡ o.table
   pub area : a' ≡ o.area
   pub put : Put out s.at o.text r.at out'
-  pub held : Held r t′ a' out'
+  pub held : Held r t' a' out'

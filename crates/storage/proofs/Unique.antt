@@ -28,8 +28,8 @@ value_got_once t n k a r s a' b' p q = (p.answer ∙ sym q.answer, p.area ∙ sy
 pub get_accepted_value_once : (κs : _) (args : _) (r s : _) (e f : _) → getAcceptedValue.Post κs args r e → getAcceptedValue.Post κs args s f → (r ≡ s) × (e.1.1.1.0.now ≡ f.1.1.1.0.now)
 get_accepted_value_once κs args r s e f p q = value_got_once _ _ _ _ _ _ _ _ p q
 
-key_set_once : (t : List ℕ) (n : ℕ) (k : Key) (c : Change) (v : Value) (d x : Done) (t′ u' : List ℕ) → KeySet t n k c v d t′ → KeySet t n k c v x u' → (d ≡ x) × (t′ ≡ u')
-key_set_once t n k c v d x t′ u' p q = (p.done ∙ sym q.done, p.table ∙ sym q.table)
+key_set_once : (t : List ℕ) (n : ℕ) (k : Key) (c : Change) (v : Value) (d x : Done) (t' u' : List ℕ) → KeySet t n k c v d t' → KeySet t n k c v x u' → (d ≡ x) × (t' ≡ u')
+key_set_once t n k c v d x t' u' p q = (p.done ∙ sym q.done, p.table ∙ sym q.table)
 
 -- the table is the first
 pub set_highest_seen_once : (κs : _) (args : _) (r s : _) (e f : _) → setHighestSeen.Post κs args r e → setHighestSeen.Post κs args s f → (r ≡ s) × (e.0.now ≡ f.0.now)

@@ -137,8 +137,8 @@ module _ (t : List ℕ) (n : ℕ) (k : Key) (l : Lookup) (el : l ≡ lookup t n 
 
 module _ (t : List ℕ) (n : ℕ) (k : Key) (c : Change) (v : Value) where
   -- a set, by its refusal, the place of its key and its register
-  pub key_set : (o : Option Refusal) (f : Found) (r : Register) (d : Done) (t′ : List ℕ) → first_due (set_tests t n k c v) ≡ o → where_is k (slots t n) ≡ f → next_on t n k c v ≡ r → d ≡ done_by o → t′ ≡ block_by o t (placed_at t f r) → KeySet t n k c v d t′
-  key_set o f r d t′ eo ef er ed et = record { done = rw eo ed; table = rw (eo, ef, er) et }
+  pub key_set : (o : Option Refusal) (f : Found) (r : Register) (d : Done) (t' : List ℕ) → first_due (set_tests t n k c v) ≡ o → where_is k (slots t n) ≡ f → next_on t n k c v ≡ r → d ≡ done_by o → t' ≡ block_by o t (placed_at t f r) → KeySet t n k c v d t'
+  key_set o f r d t' eo ef er ed et = record { done = rw eo ed; table = rw (eo, ef, er) et }
 
   -- a refusal leaves every byte
   pub set_refused : (x : Refusal) → first_due (set_tests t n k c v) ≡ some x → KeySet t n k c v (Done.Refused x) t
@@ -171,20 +171,20 @@ module _ (t : List ℕ) (n : ℕ) (k : Key) (c : Change) (v : Value) where
     due_set f r e one_block er ek = rw (lent.sized, lent.sound, e, one_block, er, ek)
 
     -- a register that a block takes
-    set_block : (f : Found) (i : ℕ) (d : Done) (t′ : List ℕ) → where_is k (slots t n) ≡ f → is_twice f ≡ false → is_full f ≡ false → ((r : Register) → placed_at t f r ≡ with_block t i (image r)) → register_on t n k ≡ register_with k (block_at t i) → BlockSet (changed c v (register_with k (block_at t i))) t i d t′ → KeySet t n k c v d t′
-    set_block f i d t′ e one_block room placed here b =
+    set_block : (f : Found) (i : ℕ) (d : Done) (t' : List ℕ) → where_is k (slots t n) ≡ f → is_twice f ≡ false → is_full f ≡ false → ((r : Register) → placed_at t f r ≡ with_block t i (image r)) → register_on t n k ≡ register_with k (block_at t i) → BlockSet (changed c v (register_with k (block_at t i))) t i d t' → KeySet t n k c v d t'
+    set_block f i d t' e one_block room placed here b =
         let held = register_with k (block_at t i) in
         let r = changed c v held in
         let o = first_due (register_tests r) in
         let er : next_on t n k c v ≡ r = next_is held here in
         let due : first_due (set_tests t n k c v) ≡ o = due_set f r e one_block er (next-key held) ∙ rw room in
-        key_set o f r d t′ due e er b.done (b.table ∙ ap (block_by o t) (sym (placed r)))
+        key_set o f r d t' due e er b.done (b.table ∙ ap (block_by o t) (sym (placed r)))
 
-    pub set_known : (i : ℕ) (d : Done) (t′ : List ℕ) → where_is k (slots t n) ≡ Found.At i → BlockSet (changed c v (register_with k (block_at t i))) t i d t′ → KeySet t n k c v d t′
-    set_known i d t′ e = set_block (Found.At i) i d t′ e refl refl (λ r. refl) (register_here t n k i lent e)
+    pub set_known : (i : ℕ) (d : Done) (t' : List ℕ) → where_is k (slots t n) ≡ Found.At i → BlockSet (changed c v (register_with k (block_at t i))) t i d t' → KeySet t n k c v d t'
+    set_known i d t' e = set_block (Found.At i) i d t' e refl refl (λ r. refl) (register_here t n k i lent e)
 
-    pub set_new : (i : ℕ) (d : Done) (t′ : List ℕ) → where_is k (slots t n) ≡ Found.Free i → BlockSet (changed c v (register_with k (block_at t i))) t i d t′ → KeySet t n k c v d t′
-    set_new i d t′ e = set_block (Found.Free i) i d t′ e refl refl (λ r. refl) (register_taken t n k i lent e)
+    pub set_new : (i : ℕ) (d : Done) (t' : List ℕ) → where_is k (slots t n) ≡ Found.Free i → BlockSet (changed c v (register_with k (block_at t i))) t i d t' → KeySet t n k c v d t'
+    set_new i d t' e = set_block (Found.Free i) i d t' e refl refl (λ r. refl) (register_taken t n k i lent e)
 
     pub set_full : (d : Done) → where_is k (slots t n) ≡ Found.Full → d ≡ full_by (changed c v (fresh k)) → KeySet t n k c v d t
     set_full d e ed =

@@ -120,9 +120,9 @@ placed_at t Found.Full r = t
 placed_at t Found.Twice r = t
 
 -- `set_highest_seen`, `set_accepted_ballot` and `set_accepted_value`: the answer, and every byte of the table
-pub record KeySet (t : List ℕ) (n : ℕ) (k : Key) (c : Change) (v : Value) (d : Done) (t′ : List ℕ) : Type 0 where
+pub record KeySet (t : List ℕ) (n : ℕ) (k : Key) (c : Change) (v : Value) (d : Done) (t' : List ℕ) : Type 0 where
   pub done : d ≡ done_by (first_due (set_tests t n k c v))
-  pub table : t′ ≡ block_by (first_due (set_tests t n k c v)) t (placed_at t (where_is k (slots t n)) (next_on t n k c v))
+  pub table : t' ≡ block_by (first_due (set_tests t n k c v)) t (placed_at t (where_is k (slots t n)) (next_on t n k c v))
 
 -- ---- for the functions below the public ones
 
@@ -141,9 +141,9 @@ unfoldable pub lookup : List ℕ → ℕ → Key → Lookup
 lookup t n k = lookup_by (first_due (key_tests t n k)) (register_on t n k)
 
 -- a register stored in block i of the table
-pub record BlockSet (r : Register) (t : List ℕ) (i : ℕ) (d : Done) (t′ : List ℕ) : Type 0 where
+pub record BlockSet (r : Register) (t : List ℕ) (i : ℕ) (d : Done) (t' : List ℕ) : Type 0 where
   pub done : d ≡ done_by (first_due (register_tests r))
-  pub table : t′ ≡ block_by (first_due (register_tests r)) t (with_block t i (image r))
+  pub table : t' ≡ block_by (first_due (register_tests r)) t (with_block t i (image r))
 
 -- a register that no block takes
 abbrev pub or_no_room : Option Refusal → Done

@@ -40,8 +40,8 @@ module _ (t : List ℕ) (n : ℕ) (a : List ℕ) (from : Address) (s : Bool) (es
     foreign : (rpc kind : Rpc) (k v w l : List ℕ) → s ≡ true → length a ≡ 256 → d ≡ true → rpc ≡ kind → job_of (message_of kind k v w l) ≡ none → Received t n a from (message_of rpc k v w l) (Answer.Refused Refusal.WrongKind) t a
     foreign rpc kind k v w l h la g e f = kind_refused t n a from (message_of rpc k v w l) (sym es ∙ h) la (sym ed ∙ g) (rw e f)
 
-as_message : (t : List ℕ) (n : ℕ) (a : List ℕ) (from : Address) (rpc kind : Rpc) (k v w l : List ℕ) (m : Message) (r : Answer) (t′ a' : List ℕ) → rpc ≡ kind → Received t n a from m r t′ a' → m ≡ message_of kind k v w l → Received t n a from (message_of rpc k v w l) r t′ a'
-as_message t n a from rpc kind k v w l m r t′ a' e h em = rw (e, ← em) h
+as_message : (t : List ℕ) (n : ℕ) (a : List ℕ) (from : Address) (rpc kind : Rpc) (k v w l : List ℕ) (m : Message) (r : Answer) (t' a' : List ℕ) → rpc ≡ kind → Received t n a from m r t' a' → m ≡ message_of kind k v w l → Received t n a from (message_of rpc k v w l) r t' a'
+as_message t n a from rpc kind k v w l m r t' a' e h em = rw (e, ← em) h
 
 pub returns-then-not-is_sized : goal.returns-then-not-is_sized
 returns-then-not-is_sized c = search wrong_size depth 8

@@ -14,11 +14,11 @@ use Rattle.message_numbers.specs.Answers.{refusal_of, numbers_after}
 use Rattle.mirkaspel.specs.Contract.{HandedBack}
 use Rattle.mirkaspel.proofs.mirkaspel_acceptor_receive.Goals as goal
 
-read : (t : List ℕ) (n : ℕ) (a : List ℕ) (from : Address) (u k v o l : List ℕ) (h : Head) (m : Rpc) (x : Answer) (t′ a' : List ℕ) → h ≡ head_in u → m ≡ message_in h → Received t n a from (message_of m k v o l) x t′ a' → Received t n a from (message_of (message_in (head_in u)) k v o l) x t′ a'
-read t n a from u k v o l h m x t′ a' e f p = subst (λ (y : Rpc). Received t n a from (message_of y k v o l) x t′ a') (f ∙ ap message_in e) p
+read : (t : List ℕ) (n : ℕ) (a : List ℕ) (from : Address) (u k v o l : List ℕ) (h : Head) (m : Rpc) (x : Answer) (t' a' : List ℕ) → h ≡ head_in u → m ≡ message_in h → Received t n a from (message_of m k v o l) x t' a' → Received t n a from (message_of (message_in (head_in u)) k v o l) x t' a'
+read t n a from u k v o l h m x t' a' e f p = subst (λ (y : Rpc). Received t n a from (message_of y k v o l) x t' a') (f ∙ ap message_in e) p
 
-handed : (t : List ℕ) (n : ℕ) (a : List ℕ) (from : Address) (u k v o l : List ℕ) (h : Head) (m : Rpc) (x : Answer) (t′ a' : List ℕ) (w w′ : List ℕ) (r : ℕ) → h ≡ head_in u → m ≡ message_in h → Received t n a from (message_of m k v o l) x t′ a' → r ≡ refusal_of x → w′ ≡ numbers_after w x → HandedBack (λ (y : Answer). Received t n a from (message_of (message_in (head_in u)) k v o l) y t′ a') w r w′
-handed t n a from u k v o l h m x t′ a' w w′ r e f p g s = record { answer = x; meets = read t n a from u k v o l h m x t′ a' e f p; number = g; numbers = s }
+handed : (t : List ℕ) (n : ℕ) (a : List ℕ) (from : Address) (u k v o l : List ℕ) (h : Head) (m : Rpc) (x : Answer) (t' a' : List ℕ) (w w' : List ℕ) (r : ℕ) → h ≡ head_in u → m ≡ message_in h → Received t n a from (message_of m k v o l) x t' a' → r ≡ refusal_of x → w' ≡ numbers_after w x → HandedBack (λ (y : Answer). Received t n a from (message_of (message_in (head_in u)) k v o l) y t' a') w r w'
+handed t n a from u k v o l h m x t' a' w w' r e f p g s = record { answer = x; meets = read t n a from u k v o l h m x t' a' e f p; number = g; numbers = s }
 
 pub returns : goal.returns
 returns c =

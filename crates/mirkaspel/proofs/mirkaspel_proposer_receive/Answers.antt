@@ -17,8 +17,8 @@ use Rattle.mirkaspel.proofs.mirkaspel_proposer_receive.Goals as goal
 read : (a : List ℕ) (n : ℕ) (s : List ℕ) (from : Address) (at : ℕ) (u k v o l : List ℕ) (h : Head) (m : Rpc) (x : Answer) (a' s' : List ℕ) → h ≡ head_in u → m ≡ message_in h → Done a s (outcome_on a n s from at (message_of m k v o l)) x a' s' → Done a s (outcome_on a n s from at (message_of (message_in (head_in u)) k v o l)) x a' s'
 read a n s from at u k v o l h m x a' s' e f p = subst (λ (y : Rpc). Done a s (outcome_on a n s from at (message_of y k v o l)) x a' s') (f ∙ ap message_in e) p
 
-handed : (a : List ℕ) (n : ℕ) (s : List ℕ) (from : Address) (at : ℕ) (u k v o l : List ℕ) (h : Head) (m : Rpc) (x : Answer) (a' s' : List ℕ) (w w′ : List ℕ) (r : ℕ) → h ≡ head_in u → m ≡ message_in h → Done a s (outcome_on a n s from at (message_of m k v o l)) x a' s' → r ≡ refusal_of x → w′ ≡ numbers_after w x → HandedBack (λ (y : Answer). Done a s (outcome_on a n s from at (message_of (message_in (head_in u)) k v o l)) y a' s') w r w′
-handed a n s from at u k v o l h m x a' s' w w′ r e f p g q = record { answer = x; meets = read a n s from at u k v o l h m x a' s' e f p; number = g; numbers = q }
+handed : (a : List ℕ) (n : ℕ) (s : List ℕ) (from : Address) (at : ℕ) (u k v o l : List ℕ) (h : Head) (m : Rpc) (x : Answer) (a' s' : List ℕ) (w w' : List ℕ) (r : ℕ) → h ≡ head_in u → m ≡ message_in h → Done a s (outcome_on a n s from at (message_of m k v o l)) x a' s' → r ≡ refusal_of x → w' ≡ numbers_after w x → HandedBack (λ (y : Answer). Done a s (outcome_on a n s from at (message_of (message_in (head_in u)) k v o l)) y a' s') w r w'
+handed a n s from at u k v o l h m x a' s' w w' r e f p g q = record { answer = x; meets = read a n s from at u k v o l h m x a' s' e f p; number = g; numbers = q }
 
 pub returns : goal.returns
 returns c =

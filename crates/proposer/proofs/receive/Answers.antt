@@ -62,8 +62,8 @@ module _ (a w : List ℕ) (n : ℕ) (from : Address) (at : ℕ) (m : Message) wh
   unfolding outcome_on
   damaged s d es h size ed bad = no_image a w n (Rules.receive (read_area a n) from at m) s d es (not-false s h) size ed (not-true d bad)
 
-  done : (s d : Bool) (r : Answer) (a' w′ : List ℕ) → Held a n → s ≡ sized a n → not s ≡ false → length w ≡ answer_bytes n → d ≡ is_image a n → not d ≡ false → Worked w (Rules.receive (read_area a n) from at m) r a' w′ → Done a w (outcome_on a n w from at m) r a' w′
-  done s d r a' w′ image es h size ed g work = received a w n s d es (not-false s h) size ed (not-false d g) image r a' w′ from at m work
+  done : (s d : Bool) (r : Answer) (a' w' : List ℕ) → Held a n → s ≡ sized a n → not s ≡ false → length w ≡ answer_bytes n → d ≡ is_image a n → not d ≡ false → Worked w (Rules.receive (read_area a n) from at m) r a' w' → Done a w (outcome_on a n w from at m) r a' w'
+  done s d r a' w' image es h size ed g work = received a w n s d es (not-false s h) size ed (not-false d g) image r a' w' from at m work
 
 pub returns-then-not-is_sized : goal.returns-then-not-is_sized
 returns-then-not-is_sized c =

@@ -53,8 +53,8 @@ damaged : (a w : List ℕ) (n t : ℕ) (s d : Bool) → s ≡ sized a n → not 
 unfolding tick_on
 damaged a w n t s d es h size ed bad = no_image a w n (Rules.tick (read_area a n) t) s d es (not-false s h) size ed (not-true d bad)
 
-done : (a w : List ℕ) (n t : ℕ) (s d : Bool) (r : Answer) (a' w′ : List ℕ) → Bytes a → s ≡ sized a n → not s ≡ false → length w ≡ answer_bytes n → d ≡ is_image a n → not d ≡ false → Worked w (Rules.tick (read_area a n) t) r a' w′ → Done a w (tick_on a n w t) r a' w′
-done a w n t s d r a' w′ bytes es h size ed g work = ticked a w n s d es (not-false s h) size ed (not-false d g) (held a n s d bytes es h ed g) r a' w′ t work
+done : (a w : List ℕ) (n t : ℕ) (s d : Bool) (r : Answer) (a' w' : List ℕ) → Bytes a → s ≡ sized a n → not s ≡ false → length w ≡ answer_bytes n → d ≡ is_image a n → not d ≡ false → Worked w (Rules.tick (read_area a n) t) r a' w' → Done a w (tick_on a n w t) r a' w'
+done a w n t s d r a' w' bytes es h size ed g work = ticked a w n s d es (not-false s h) size ed (not-false d g) (held a n s d bytes es h ed g) r a' w' t work
 
 pub returns-then-not-is_sized : goal.returns-then-not-is_sized
 returns-then-not-is_sized c = search other_size

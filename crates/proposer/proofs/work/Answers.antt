@@ -49,8 +49,8 @@ module _ (a w : List ℕ) (n : ℕ) (from : Address) (at : ℕ) (rpc kind : Rpc)
   limits : fits ≡ within_limits from (message_of kind k v u l)
   limits = ef ∙ ap (λ (x : Rpc). within_limits from (message_of x k v u l)) e
 
-  as_kind : (r : Answer) (a' w′ : List ℕ) → Worked w (Rules.receive (read_area a n) from at (message_of kind k v u l)) r a' w′ → Worked w (Rules.receive (read_area a n) from at (message_of rpc k v u l)) r a' w′
-  as_kind r a' w′ h = subst (λ (x : Rpc). Worked w (Rules.receive (read_area a n) from at (message_of x k v u l)) r a' w′) (sym e) h
+  as_kind : (r : Answer) (a' w' : List ℕ) → Worked w (Rules.receive (read_area a n) from at (message_of kind k v u l)) r a' w' → Worked w (Rules.receive (read_area a n) from at (message_of rpc k v u l)) r a' w'
+  as_kind r a' w' h = subst (λ (x : Rpc). Worked w (Rules.receive (read_area a n) from at (message_of x k v u l)) r a' w') (sym e) h
 
   within : not fits ≡ false → within_limits from (message_of kind k v u l) ≡ true
   within h = sym limits ∙ not-false fits h
@@ -58,8 +58,8 @@ module _ (a w : List ℕ) (n : ℕ) (from : Address) (at : ℕ) (rpc kind : Rpc)
   wrong_kind : foreign (message_of kind k v u l) ≡ true → Worked w (Rules.receive (read_area a n) from at (message_of rpc k v u l)) (Answer.Refused Refusal.WrongKind) a w
   wrong_kind strange = as_kind (Answer.Refused Refusal.WrongKind) a w (Laws.wrong_kind a w n from at (message_of kind k v u l) held strange)
 
-  handed_on : (r : Answer) (a' w′ : List ℕ) → not fits ≡ false → foreign (message_of kind k v u l) ≡ false → Worked w (Rules.work (read_area a n) from at (message_of kind k v u l)) r a' w′ → Worked w (Rules.receive (read_area a n) from at (message_of rpc k v u l)) r a' w′
-  handed_on r a' w′ h own done = as_kind r a' w′ (Laws.taken_in_lem a w n from at (message_of kind k v u l) held fits r a' w′ own limits (not-false fits h) done)
+  handed_on : (r : Answer) (a' w' : List ℕ) → not fits ≡ false → foreign (message_of kind k v u l) ≡ false → Worked w (Rules.work (read_area a n) from at (message_of kind k v u l)) r a' w' → Worked w (Rules.receive (read_area a n) from at (message_of rpc k v u l)) r a' w'
+  handed_on r a' w' h own done = as_kind r a' w' (Laws.taken_in_lem a w n from at (message_of kind k v u l) held fits r a' w' own limits (not-false fits h) done)
 
 -- ---- where the message is within the limits
 
@@ -76,10 +76,10 @@ wrong_at c kind e strange =
     let args = c.args in
     wrong_kind args.area.now args.answer.now args.places args.from args.at args.rpc kind args.key.now args.value.now args.other.now args.list.now args.fits c.requires.0 c.requires.3 e strange
 
-handed_at : (c : Else-not-fits) (kind : Rpc) (r : Answer) (a' w′ : List ℕ) → c.args.rpc ≡ kind → foreign (told c kind) ≡ false → let args = c.args in Worked args.answer.now (Rules.work (read_area args.area.now args.places) args.from args.at (told c kind)) r a' w′ → Worked args.answer.now (Rules.receive (read_area args.area.now args.places) args.from args.at (told c args.rpc)) r a' w′
-handed_at c kind r a' w′ e own h =
+handed_at : (c : Else-not-fits) (kind : Rpc) (r : Answer) (a' w' : List ℕ) → c.args.rpc ≡ kind → foreign (told c kind) ≡ false → let args = c.args in Worked args.answer.now (Rules.work (read_area args.area.now args.places) args.from args.at (told c kind)) r a' w' → Worked args.answer.now (Rules.receive (read_area args.area.now args.places) args.from args.at (told c args.rpc)) r a' w'
+handed_at c kind r a' w' e own h =
     let args = c.args in
-    handed_on args.area.now args.answer.now args.places args.from args.at args.rpc kind args.key.now args.value.now args.other.now args.list.now args.fits c.requires.0 c.requires.3 e r a' w′ c.if-not-fits.false-raw own h
+    handed_on args.area.now args.answer.now args.places args.from args.at args.rpc kind args.key.now args.value.now args.other.now args.list.now args.fits c.requires.0 c.requires.3 e r a' w' c.if-not-fits.false-raw own h
 
 pub returns-then-not-fits : goal.returns-then-not-fits
 returns-then-not-fits c =

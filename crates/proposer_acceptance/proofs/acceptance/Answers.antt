@@ -49,10 +49,10 @@ tested_at c known = record {
 -- ---- by the result, as an enum of the code
 
 module _ (a w : List ℕ) (n i : ℕ) (ballot : Ballot) (f : Front) (from : Address) (t : Tested a n i ballot f from) (second : f.phase ≡ Code.Phase.Accept) (res kind : Res) (v : List ℕ) where
-  handed_on : (r : Answer) (a' w′ : List ℕ) → res ≡ kind → foreign_acceptance (result_of kind v) ≡ false → Worked w (acceptance_work (read_area a n) (read_pending (place_in a i)) from (result_of kind v)) r a' w′ → Worked w (on_acceptance (read_area a n) (pending_at ballot (read_area a n).places) from (result_of res v)) r a' w′
-  handed_on r a' w′ e own h =
-      subst (λ (x : Res). Worked w (on_acceptance (read_area a n) (pending_at ballot (read_area a n).places) from (result_of x v)) r a' w′) (sym e)
-      (acceptance_handed a w n i ballot f from t.found.held t.found.place t.found.within t.found.front second t.answered t.answers t.not_yet t.waited t.waiting t.there (result_of kind v) r a' w′ own h)
+  handed_on : (r : Answer) (a' w' : List ℕ) → res ≡ kind → foreign_acceptance (result_of kind v) ≡ false → Worked w (acceptance_work (read_area a n) (read_pending (place_in a i)) from (result_of kind v)) r a' w' → Worked w (on_acceptance (read_area a n) (pending_at ballot (read_area a n).places) from (result_of res v)) r a' w'
+  handed_on r a' w' e own h =
+      subst (λ (x : Res). Worked w (on_acceptance (read_area a n) (pending_at ballot (read_area a n).places) from (result_of x v)) r a' w') (sym e)
+      (acceptance_handed a w n i ballot f from t.found.held t.found.place t.found.within t.found.front second t.answered t.answers t.not_yet t.waited t.waiting t.there (result_of kind v) r a' w' own h)
 
   foreign : res ≡ kind → foreign_acceptance (result_of kind v) ≡ true → Worked w (on_acceptance (read_area a n) (pending_at ballot (read_area a n).places) from (result_of res v)) (Answer.Refused Refusal.ForeignError) a w
   foreign e strange =

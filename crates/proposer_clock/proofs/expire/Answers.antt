@@ -30,38 +30,38 @@ use Rattle.proposer_clock.proofs.expire.Goals as goal
 header_room : (a : List ℕ) (n : ℕ) → Held a n → header_bytes ≤ length a
 header_room a n held = omega (arith, (sized_of a n held.sized).bytes)
 
-size_now : (a w : List ℕ) (n t k : ℕ) (a' w′ : List ℕ) → Expiring a w n t k a' w′ → sized a' n ≡ true
-size_now a w n t k a' w′ here = here.held.sized
+size_now : (a w : List ℕ) (n t k : ℕ) (a' w' : List ℕ) → Expiring a w n t k a' w' → sized a' n ≡ true
+size_now a w n t k a' w' here = here.held.sized
 
-same_size : (a w : List ℕ) (n t k : ℕ) (a' w′ : List ℕ) → Held a n → Expiring a w n t k a' w′ → length a' ≡ length a
-same_size a w n t k a' w′ held here = (sized_of a' n here.held.sized).bytes ∙ sym (sized_of a n held.sized).bytes
+same_size : (a w : List ℕ) (n t k : ℕ) (a' w' : List ℕ) → Held a n → Expiring a w n t k a' w' → length a' ≡ length a
+same_size a w n t k a' w' held here = (sized_of a' n here.held.sized).bytes ∙ sym (sized_of a n held.sized).bytes
 
-timeout_now : (a w : List ℕ) (n t k : ℕ) (a' w′ : List ℕ) (h : Header) → Expiring a w n t k a' w′ → h ≡ header_in a → h.timeout ≡ (read_area a' n).timeout
+timeout_now : (a w : List ℕ) (n t k : ℕ) (a' w' : List ℕ) (h : Header) → Expiring a w n t k a' w' → h ≡ header_in a → h.timeout ≡ (read_area a' n).timeout
 unfolding read_area
-timeout_now a w n t k a' w′ h here eh = ap (λ (g : Header). g.timeout) eh ∙ sym (ap (λ (s : Proposer). s.timeout) here.same)
+timeout_now a w n t k a' w' h here eh = ap (λ (g : Header). g.timeout) eh ∙ sym (ap (λ (s : Proposer). s.timeout) here.same)
 
-room_now : (a w : List ℕ) (n t k : ℕ) (a' w′ : List ℕ) (i : ℕ) → Expiring a w n t k a' w′ → (i ≡ n → ⊥) → i ≤ n → place_at i + place_bytes ≤ length a'
-room_now a w n t k a' w′ i here other within = place_room a' n i here.held.sized (omega (arith, other, within))
+room_now : (a w : List ℕ) (n t k : ℕ) (a' w' : List ℕ) (i : ℕ) → Expiring a w n t k a' w' → (i ≡ n → ⊥) → i ≤ n → place_at i + place_bytes ≤ length a'
+room_now a w n t k a' w' i here other within = place_room a' n i here.held.sized (omega (arith, other, within))
 
-row_room : (a w : List ℕ) (n t k : ℕ) (a' w′ : List ℕ) → Expiring a w n t k a' w′ → k < n → rows_at + row_bytes * k + row_bytes ≤ length w′
-row_room a w n t k a' w′ here more = omega (arith, here.size)
+row_room : (a w : List ℕ) (n t k : ℕ) (a' w' : List ℕ) → Expiring a w n t k a' w' → k < n → rows_at + row_bytes * k + row_bytes ≤ length w'
+row_room a w n t k a' w' here more = omega (arith, here.size)
 
 -- ---- the turns
 
-one_more : (a w : List ℕ) (n t k : ℕ) (a' w′ : List ℕ) (i : ℕ) (f : Front) (a₁ w₁ : List ℕ) → Expiring a w n t k a' w′ → i ≡ late_of (read_area a' n) t (read_places a' header_bytes n) → (i ≡ n → ⊥) → i ≤ n → f ≡ front_of (read_pending (place_in a' i)) → w₁ ≡ sets w′ (rows_at + row_bytes * k) (rows_bytes (record { client = f.client; id = f.id } ∷ [])) → a₁ ≡ sets a' (place_at i) (place_image none) → Expiring a w n t (k + 1) a₁ w₁
-one_more a w n t k a' w′ i f a₁ w₁ here ei other within ef ew ea = rw add-one (expire_goes_on a w n t k a' w′ here i f a₁ w₁ ei (omega (arith, other, within)) ef ew ea)
+one_more : (a w : List ℕ) (n t k : ℕ) (a' w' : List ℕ) (i : ℕ) (f : Front) (a₁ w₁ : List ℕ) → Expiring a w n t k a' w' → i ≡ late_of (read_area a' n) t (read_places a' header_bytes n) → (i ≡ n → ⊥) → i ≤ n → f ≡ front_of (read_pending (place_in a' i)) → w₁ ≡ sets w' (rows_at + row_bytes * k) (rows_bytes (record { client = f.client; id = f.id } ∷ [])) → a₁ ≡ sets a' (place_at i) (place_image none) → Expiring a w n t (k + 1) a₁ w₁
+one_more a w n t k a' w' i f a₁ w₁ here ei other within ef ew ea = rw add-one (expire_goes_on a w n t k a' w' here i f a₁ w₁ ei (omega (arith, other, within)) ef ew ea)
 
-abbrev Dropped : (a w : List ℕ) (n t k : ℕ) (a' w′ : List ℕ) → Type 0
-Dropped a w n t k a' w′ = (k ≡ length (late_ones (read_area a n) t (read_area a n).places)) × (a' ≡ area_image (moved (read_area a n) (read_area a n).counter (in_time (read_area a n) t (read_area a n).places))) × (w′ ≡ sets w rows_at (rows_bytes (rows_of (late_ones (read_area a n) t (read_area a n).places))))
+abbrev Dropped : (a w : List ℕ) (n t k : ℕ) (a' w' : List ℕ) → Type 0
+Dropped a w n t k a' w' = (k ≡ length (late_ones (read_area a n) t (read_area a n).places)) × (a' ≡ area_image (moved (read_area a n) (read_area a n).counter (in_time (read_area a n) t (read_area a n).places))) × (w' ≡ sets w rows_at (rows_bytes (rows_of (late_ones (read_area a n) t (read_area a n).places))))
 
-dropped : (a w : List ℕ) (n t k : ℕ) (a' w′ : List ℕ) → Expired a w n t k a' w′ → Dropped a w n t k a' w′
-dropped a w n t k a' w′ done = (done.told, done.area, done.rows)
+dropped : (a w : List ℕ) (n t k : ℕ) (a' w' : List ℕ) → Expired a w n t k a' w' → Dropped a w n t k a' w'
+dropped a w n t k a' w' done = (done.told, done.area, done.rows)
 
-none_late : (a w : List ℕ) (n t k : ℕ) (a' w′ : List ℕ) (i : ℕ) → Expiring a w n t k a' w′ → i ≡ late_of (read_area a' n) t (read_places a' header_bytes n) → i ≡ n → Dropped a w n t k a' w′
-none_late a w n t k a' w′ i here ei e = dropped a w n t k a' w′ (expire_ends a w n t k a' w′ here i ei e)
+none_late : (a w : List ℕ) (n t k : ℕ) (a' w' : List ℕ) (i : ℕ) → Expiring a w n t k a' w' → i ≡ late_of (read_area a' n) t (read_places a' header_bytes n) → i ≡ n → Dropped a w n t k a' w'
+none_late a w n t k a' w' i here ei e = dropped a w n t k a' w' (expire_ends a w n t k a' w' here i ei e)
 
-all_told : (a w : List ℕ) (n t k : ℕ) (a' w′ : List ℕ) → Expiring a w n t k a' w′ → k ≤ n → n ≤ k → Dropped a w n t k a' w′
-all_told a w n t k a' w′ here most least = dropped a w n t k a' w′ (expire_full a w n t k a' w′ here (omega (arith, most, least)))
+all_told : (a w : List ℕ) (n t k : ℕ) (a' w' : List ℕ) → Expiring a w n t k a' w' → k ≤ n → n ≤ k → Dropped a w n t k a' w'
+all_told a w n t k a' w' here most least = dropped a w n t k a' w' (expire_full a w n t k a' w' here (omega (arith, most, least)))
 
 pub take_header-h-requires : goal.take_header-h-requires
 take_header-h-requires c = search header_room

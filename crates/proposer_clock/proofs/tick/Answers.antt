@@ -15,11 +15,11 @@ use Rattle.proposer_works.specs.Works.{Worked}
 use Rattle.proposer_clock.specs.TickLaws.{tick_back, tick_nothing, tick_told}
 use Rattle.proposer_clock.proofs.tick.Goals as goal
 
-nothing_late : (a w : List ℕ) (n t k : ℕ) (back : Bool) (a' w′ : List ℕ) → back ≡ clock_back t (read_places a header_bytes n) → back ≡ false → k ≡ length (late_ones (read_area a n) t (read_area a n).places) → a' ≡ area_image (moved (read_area a n) (read_area a n).counter (in_time (read_area a n) t (read_area a n).places)) → w′ ≡ sets w rows_at (rows_bytes (rows_of (late_ones (read_area a n) t (read_area a n).places))) → k ≡ 0 → Worked w (Rules.tick (read_area a n) t) Answer.Nothing a' w′
-nothing_late a w n t k back a' w′ e ahead told area rows z = tick_nothing a w n t k back a' w′ e ahead (record { told = told; area = area; rows = rows }) z
+nothing_late : (a w : List ℕ) (n t k : ℕ) (back : Bool) (a' w' : List ℕ) → back ≡ clock_back t (read_places a header_bytes n) → back ≡ false → k ≡ length (late_ones (read_area a n) t (read_area a n).places) → a' ≡ area_image (moved (read_area a n) (read_area a n).counter (in_time (read_area a n) t (read_area a n).places)) → w' ≡ sets w rows_at (rows_bytes (rows_of (late_ones (read_area a n) t (read_area a n).places))) → k ≡ 0 → Worked w (Rules.tick (read_area a n) t) Answer.Nothing a' w'
+nothing_late a w n t k back a' w' e ahead told area rows z = tick_nothing a w n t k back a' w' e ahead (record { told = told; area = area; rows = rows }) z
 
-some_told : (a w : List ℕ) (n t k : ℕ) (back : Bool) (a' w′ : List ℕ) → back ≡ clock_back t (read_places a header_bytes n) → back ≡ false → k ≡ length (late_ones (read_area a n) t (read_area a n).places) → a' ≡ area_image (moved (read_area a n) (read_area a n).counter (in_time (read_area a n) t (read_area a n).places)) → w′ ≡ sets w rows_at (rows_bytes (rows_of (late_ones (read_area a n) t (read_area a n).places))) → (k ≡ 0 → ⊥) → Worked w (Rules.tick (read_area a n) t) (Answer.Timeouts k) a' w′
-some_told a w n t k back a' w′ e ahead told area rows late = tick_told a w n t k back a' w′ e ahead (record { told = told; area = area; rows = rows }) late
+some_told : (a w : List ℕ) (n t k : ℕ) (back : Bool) (a' w' : List ℕ) → back ≡ clock_back t (read_places a header_bytes n) → back ≡ false → k ≡ length (late_ones (read_area a n) t (read_area a n).places) → a' ≡ area_image (moved (read_area a n) (read_area a n).counter (in_time (read_area a n) t (read_area a n).places)) → w' ≡ sets w rows_at (rows_bytes (rows_of (late_ones (read_area a n) t (read_area a n).places))) → (k ≡ 0 → ⊥) → Worked w (Rules.tick (read_area a n) t) (Answer.Timeouts k) a' w'
+some_told a w n t k back a' w' e ahead told area rows late = tick_told a w n t k back a' w' e ahead (record { told = told; area = area; rows = rows }) late
 
 pub returns-then-clock_back : goal.returns-then-clock_back
 returns-then-clock_back c = search tick_back depth 9

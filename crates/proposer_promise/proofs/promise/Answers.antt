@@ -50,14 +50,14 @@ tested_at c known = record {
 -- ---- by the result, as an enum of the code
 
 module _ (a w : List ℕ) (n i : ℕ) (ballot : Ballot) (f : Front) (from : Address) (b : Ballot) (o : Option Value) (t : Tested a n i ballot f from) (first : f.phase ≡ Code.Phase.Propose) (res : Res) where
-  by_result : (kind : Res) (v : List ℕ) (r : Answer) (a' w′ : List ℕ) → res ≡ kind → Worked w (on_promise (read_area a n) (pending_at ballot (read_area a n).places) from b o (result_of kind v)) r a' w′ → Worked w (on_promise (read_area a n) (pending_at ballot (read_area a n).places) from b o (result_of res v)) r a' w′
-  by_result kind v r a' w′ e h = subst (λ (x : Res). Worked w (on_promise (read_area a n) (pending_at ballot (read_area a n).places) from b o (result_of x v)) r a' w′) (sym e) h
+  by_result : (kind : Res) (v : List ℕ) (r : Answer) (a' w' : List ℕ) → res ≡ kind → Worked w (on_promise (read_area a n) (pending_at ballot (read_area a n).places) from b o (result_of kind v)) r a' w' → Worked w (on_promise (read_area a n) (pending_at ballot (read_area a n).places) from b o (result_of res v)) r a' w'
+  by_result kind v r a' w' e h = subst (λ (x : Res). Worked w (on_promise (read_area a n) (pending_at ballot (read_area a n).places) from b o (result_of x v)) r a' w') (sym e) h
 
-  granted : (v : List ℕ) (r : Answer) (a' w′ : List ℕ) → res ≡ Res.Ok → Worked w (granting (read_area a n) (read_pending (place_in a i)) from b o) r a' w′ → Worked w (on_promise (read_area a n) (pending_at ballot (read_area a n).places) from b o (result_of res v)) r a' w′
-  granted v r a' w′ e h = by_result Res.Ok v r a' w′ e (promise_ok a w n i ballot f from b o t.found.held t.found.place t.found.within t.found.front first t.answered t.answers t.not_yet t.waited t.waiting t.there r a' w′ h)
+  granted : (v : List ℕ) (r : Answer) (a' w' : List ℕ) → res ≡ Res.Ok → Worked w (granting (read_area a n) (read_pending (place_in a i)) from b o) r a' w' → Worked w (on_promise (read_area a n) (pending_at ballot (read_area a n).places) from b o (result_of res v)) r a' w'
+  granted v r a' w' e h = by_result Res.Ok v r a' w' e (promise_ok a w n i ballot f from b o t.found.held t.found.place t.found.within t.found.front first t.answered t.answers t.not_yet t.waited t.waiting t.there r a' w' h)
 
-  rejected : (v : List ℕ) (last : Ballot) (r : Answer) (a' w′ : List ℕ) → res ≡ Res.Err (Error.ProposalRejected last) → Worked w (rejecting (read_area a n) (read_pending (place_in a i)) from last b o) r a' w′ → Worked w (on_promise (read_area a n) (pending_at ballot (read_area a n).places) from b o (result_of res v)) r a' w′
-  rejected v last r a' w′ e h = by_result (Res.Err (Error.ProposalRejected last)) v r a' w′ e (promise_rejected a w n i ballot f from b o t.found.held t.found.place t.found.within t.found.front first t.answered t.answers t.not_yet t.waited t.waiting t.there last r a' w′ h)
+  rejected : (v : List ℕ) (last : Ballot) (r : Answer) (a' w' : List ℕ) → res ≡ Res.Err (Error.ProposalRejected last) → Worked w (rejecting (read_area a n) (read_pending (place_in a i)) from last b o) r a' w' → Worked w (on_promise (read_area a n) (pending_at ballot (read_area a n).places) from b o (result_of res v)) r a' w'
+  rejected v last r a' w' e h = by_result (Res.Err (Error.ProposalRejected last)) v r a' w' e (promise_rejected a w n i ballot f from b o t.found.held t.found.place t.found.within t.found.front first t.answered t.answers t.not_yet t.waited t.waiting t.there last r a' w' h)
 
   foreign : (error : Error) (v : List ℕ) → res ≡ Res.Err error → foreign_promise (result_of (Res.Err error) v) ≡ true → Worked w (on_promise (read_area a n) (pending_at ballot (read_area a n).places) from b o (result_of res v)) (Answer.Refused Refusal.ForeignError) a w
   foreign error v e strange = by_result (Res.Err error) v (Answer.Refused Refusal.ForeignError) a w e (promise_foreign a w n i ballot f from b o t.found.held t.found.place t.found.within t.found.front first t.answered t.answers t.not_yet t.waited t.waiting t.there (failure_of error v) strange)

@@ -17,9 +17,9 @@ too_long : (s r : Run) (t a out out' text : List ℕ) (line : ℕ) → 4096 < le
 unfolding obeyed
 too_long s r t a out out' text line h k = rw (lt-ltb 4096 (length text) h) k
 
-done : (s r : Run) (t a out t′ a' out' text bytes list bytes' list' : List ℕ) (line : ℕ) (u : Line) → length text ≤ 4096 → 1800 ≤ length bytes → 32 ≤ length list → Read text bytes list u bytes' list' → Stepped s out (taken_in s t a line u.step (take (u.key - 0) (drop 0 bytes')) (take (u.value - u.key) (drop u.key bytes')) (take (u.other - u.value) (drop u.value bytes')) (take (u.list - 0) (drop 0 list'))) r t′ a' out' → Stepped s out (obeyed s t a line text) r t′ a' out'
+done : (s r : Run) (t a out t' a' out' text bytes list bytes' list' : List ℕ) (line : ℕ) (u : Line) → length text ≤ 4096 → 1800 ≤ length bytes → 32 ≤ length list → Read text bytes list u bytes' list' → Stepped s out (taken_in s t a line u.step (take (u.key - 0) (drop 0 bytes')) (take (u.value - u.key) (drop u.key bytes')) (take (u.other - u.value) (drop u.value bytes')) (take (u.list - 0) (drop 0 list'))) r t' a' out' → Stepped s out (obeyed s t a line text) r t' a' out'
 unfolding obeyed
-done s r t a out t′ a' out' text bytes list bytes' list' line u h room places read k =
+done s r t a out t' a' out' text bytes list bytes' list' line u h room places read k =
     let key : take (u.key - 0) (drop 0 bytes') ≡ key_of text = lent bytes' u.key ∙ key_there text bytes list u bytes' list' read room in
     let value : take (u.value - u.key) (drop u.key bytes') ≡ value_of text = value_there text bytes list u bytes' list' read room in
     let other : take (u.other - u.value) (drop u.value bytes') ≡ other_of text = other_there text bytes list u bytes' list' read room in

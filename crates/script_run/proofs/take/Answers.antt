@@ -16,9 +16,9 @@ no_party : (s r : Run) (t a out out' k v o l : List ℕ) (line : ℕ) (step : St
 unfolding taken_in
 no_party s r t a out out' k v o l line step f e h q = first_of s r out t a out' (lacks_party step s.started) _ _ (sym e ∙ h) q
 
-arm : (s r : Run) (t a out t′ a' out' k v o l : List ℕ) (line : ℕ) (step c : Step) (f : Bool) → f ≡ lacks_party step s.started → f ≡ false → step ≡ c → Stepped s out (step_in s t a line c k v o l) r t′ a' out' → Stepped s out (taken_in s t a line step k v o l) r t′ a' out'
+arm : (s r : Run) (t a out t' a' out' k v o l : List ℕ) (line : ℕ) (step c : Step) (f : Bool) → f ≡ lacks_party step s.started → f ≡ false → step ≡ c → Stepped s out (step_in s t a line c k v o l) r t' a' out' → Stepped s out (taken_in s t a line step k v o l) r t' a' out'
 unfolding taken_in
-arm s r t a out t′ a' out' k v o l line step c f e h m q = second_of s r out t′ a' out' (lacks_party step s.started) _ _ (sym e ∙ h) (rw m q)
+arm s r t a out t' a' out' k v o l line step c f e h m q = second_of s r out t' a' out' (lacks_party step s.started) _ _ (sym e ∙ h) (rw m q)
 
 passed : (s : Run) (t a out k v o l : List ℕ) (line : ℕ) (step : Step) (f : Bool) → Held s t a out → f ≡ lacks_party step s.started → f ≡ false → step ≡ Step.Pass → Stepped s out (taken_in s t a line step k v o l) s t a out
 passed s t a out k v o l line step f held e h m = arm s s t a out t a out k v o l line step Step.Pass f e h m (quiet s s s t a out held.3 refl refl held)

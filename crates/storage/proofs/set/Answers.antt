@@ -34,12 +34,12 @@ module _ (t : List ℕ) (n : ℕ) (k : List ℕ) (c : Change) (v : List ℕ) (s 
       full : (r : Done) → found ≡ Found.Full → r ≡ full_by (changed c v (fresh k)) → KeySet t n k c v r t
       full r e er = set_full t n k c v lent r (sym ef ∙ e) er
 
-      module _ (i : ℕ) (r : Done) (t′ : List ℕ) (b : BlockSet (changed c v (register_with k (block_at t i))) t i r t′) where
-        known : found ≡ Found.At i → KeySet t n k c v r t′
-        known e = set_known t n k c v lent i r t′ (sym ef ∙ e) b
+      module _ (i : ℕ) (r : Done) (t' : List ℕ) (b : BlockSet (changed c v (register_with k (block_at t i))) t i r t') where
+        known : found ≡ Found.At i → KeySet t n k c v r t'
+        known e = set_known t n k c v lent i r t' (sym ef ∙ e) b
 
-        new : found ≡ Found.Free i → KeySet t n k c v r t′
-        new e = set_new t n k c v lent i r t′ (sym ef ∙ e) b
+        new : found ≡ Found.Free i → KeySet t n k c v r t'
+        new e = set_new t n k c v lent i r t' (sym ef ∙ e) b
 
 -- what `set_at` asks of the block that was found
 module _ (t : List ℕ) (n : ℕ) (k : List ℕ) (i : ℕ) (found : Found) (lent : Lent t n) (ef : found ≡ where_is k (slots t n)) where

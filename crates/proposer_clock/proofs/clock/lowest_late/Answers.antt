@@ -74,7 +74,7 @@ module _ (a : List ℕ) (n t timeout found lowest i : ℕ) (inv : Lowest a n t f
         size = inv.size;
         within = omega arith;
         place = rw (turned, step.0) (omega arith);
-        in-range = inv.in-range;
+        in_range = inv.in_range;
         below = λ b. rw turned (step.1 b ∙ inv.below b);
       }
 
@@ -95,7 +95,7 @@ module _ (a : List ℕ) (n t timeout found lowest i : ℕ) (inv : Lowest a n t f
           size = inv.size;
           within = omega arith;
           place = rw (step.0, m) (omega arith);
-          in-range = omega arith;
+          in_range = omega arith;
           below = λ b. step.1 b ∙ lower_wins (eqb found n) q.0 lowest b.0 m ∙ rw (ne_eqb (i - 1) n (λ (same : i - 1 ≡ n). omega arith));
         }
 
@@ -106,7 +106,7 @@ module _ (a : List ℕ) (n t timeout found lowest i : ℕ) (inv : Lowest a n t f
           size = inv.size;
           within = omega arith;
           place = rw (step.0, m) (omega arith);
-          in-range = inv.in-range;
+          in_range = inv.in_range;
           below = λ b. step.1 b ∙ higher_passes (eqb found n) q.0 lowest b.0 m;
         }
 
@@ -126,7 +126,7 @@ begin a n t h = record {
   size = sized_of a n h;
   within = omega arith;
   place = rw (places_past a n n (omega arith)) (omega arith);
-  in-range = omega arith;
+  in_range = omega arith;
   below = λ b. rw (places_past a n n (omega arith), eq-eqb n n refl);
 }
 
@@ -139,7 +139,7 @@ done : (a : List ℕ) (n t found lowest i : ℕ) → Lowest a n t found lowest i
 done a n t found lowest i inv h =
     let e : i ≡ 0 = omega arith in
     let there = rw (e, places_all a n) at inv.place in
-    (omega arith, inv.in-range)
+    (omega arith, inv.in_range)
 
 pub loop-i-init : goal.loop-i-init
 loop-i-init c = search begin

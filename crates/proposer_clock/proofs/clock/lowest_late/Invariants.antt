@@ -17,7 +17,7 @@ pub record Lowest (a : List ℕ) (n t found lowest i : ℕ) : Type 0 where
   pub size : Sized a n
   pub within : i ≤ n
   pub place : found ≡ i + late_of (read_area a n) t (read_places a (place_at i) (n - i))
-  pub in-range : found ≤ n
+  pub in_range : found ≤ n
   pub below : (b : Ballot) → none_below (read_area a n) t b (read_places a (place_at i) (n - i)) ≡ (eqb found n || leb b.0 lowest)
 
 abbrev pub invariant-loop-i : goal.invariant-loop-i

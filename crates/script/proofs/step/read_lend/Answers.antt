@@ -13,11 +13,11 @@ use Rattle.script.proofs.step.read_lend.Goals as goal
 no_registers : (v w u s : List ℕ) (x : Number) → x ≡ number_of v → v ≡ w → x ≡ Number.Bad → Step.Unreadable ≡ lend_by (number_of w) (number_of u) (number_of s)
 no_registers v w u s x e f h = rw (← f, ← e, h)
 
-no_bytes : (v w v' w′ u : List ℕ) (n : ℕ) (x x' : Number) → x ≡ number_of v → v ≡ w → x ≡ Number.Good n → x' ≡ number_of v' → v' ≡ w′ → x' ≡ Number.Bad → Step.Unreadable ≡ lend_by (number_of w) (number_of w′) (number_of u)
-no_bytes v w v' w′ u n x x' e f h e' f' h' = rw (← f, ← e, h, ← f', ← e', h')
+no_bytes : (v w v' w' u : List ℕ) (n : ℕ) (x x' : Number) → x ≡ number_of v → v ≡ w → x ≡ Number.Good n → x' ≡ number_of v' → v' ≡ w' → x' ≡ Number.Bad → Step.Unreadable ≡ lend_by (number_of w) (number_of w') (number_of u)
+no_bytes v w v' w' u n x x' e f h e' f' h' = rw (← f, ← e, h, ← f', ← e', h')
 
-all : (v w v' w′ v'' w'' : List ℕ) (n m : ℕ) (x x' x'' y : Number) (r : Step) → x ≡ number_of v → v ≡ w → x ≡ Number.Good n → x' ≡ number_of v' → v' ≡ w′ → x' ≡ Number.Good m → x'' ≡ number_of v'' → v'' ≡ w'' → x'' ≡ y → r ≡ lend_by (Number.Good n) (Number.Good m) y → r ≡ lend_by (number_of w) (number_of w′) (number_of w'')
-all v w v' w′ v'' w'' n m x x' x'' y r e f h e' f' h' e'' f'' h'' g = rw (← f, ← e, h, ← f', ← e', h', ← f'', ← e'', h'', g)
+all : (v w v' w' v'' w'' : List ℕ) (n m : ℕ) (x x' x'' y : Number) (r : Step) → x ≡ number_of v → v ≡ w → x ≡ Number.Good n → x' ≡ number_of v' → v' ≡ w' → x' ≡ Number.Good m → x'' ≡ number_of v'' → v'' ≡ w'' → x'' ≡ y → r ≡ lend_by (Number.Good n) (Number.Good m) y → r ≡ lend_by (number_of w) (number_of w') (number_of w'')
+all v w v' w' v'' w'' n m x x' x'' y r e f h e' f' h' e'' f'' h'' g = rw (← f, ← e, h, ← f', ← e', h', ← f'', ← e'', h'', g)
 
 pub returns-then-words-ne4 : goal.returns-then-words-ne4
 returns-then-words-ne4 c = search not_as_many depth 9

@@ -15,11 +15,11 @@ use Rattle.script.proofs.step.read_proposer.Goals as goal
 no_places : (v w u : List ℕ) (l : Bool) (x : Number) → x ≡ number_of v → v ≡ w → x ≡ Number.Bad → Step.Unreadable ≡ proposer_by (number_of w) (number_of u) l
 no_places v w u l x e f h = rw (← f, ← e, h)
 
-no_timeout : (v w v' w′ : List ℕ) (l : Bool) (n : ℕ) (x x' : Number) → x ≡ number_of v → v ≡ w → x ≡ Number.Good n → x' ≡ number_of v' → v' ≡ w′ → x' ≡ Number.Bad → Step.Unreadable ≡ proposer_by (number_of w) (number_of w′) l
-no_timeout v w v' w′ l n x x' e f h e' f' h' = rw (← f, ← e, h, ← f', ← e', h')
+no_timeout : (v w v' w' : List ℕ) (l : Bool) (n : ℕ) (x x' : Number) → x ≡ number_of v → v ≡ w → x ≡ Number.Good n → x' ≡ number_of v' → v' ≡ w' → x' ≡ Number.Bad → Step.Unreadable ≡ proposer_by (number_of w) (number_of w') l
+no_timeout v w v' w' l n x x' e f h e' f' h' = rw (← f, ← e, h, ← f', ← e', h')
 
-all : (v w v' w′ v'' w'' : List ℕ) (n m : ℕ) (x x' : Number) (t b : Bool) (r : Step) → x ≡ number_of v → v ≡ w → x ≡ Number.Good n → x' ≡ number_of v' → v' ≡ w′ → x' ≡ Number.Good m → t ≡ list_word v'' → v'' ≡ w'' → t ≡ b → r ≡ proposer_by (Number.Good n) (Number.Good m) b → r ≡ proposer_by (number_of w) (number_of w′) (list_word w'')
-all v w v' w′ v'' w'' n m x x' t b r e f h e' f' h' e'' f'' h'' g = rw (← f, ← e, h, ← f', ← e', h', ← f'', ← e'', h'', g)
+all : (v w v' w' v'' w'' : List ℕ) (n m : ℕ) (x x' : Number) (t b : Bool) (r : Step) → x ≡ number_of v → v ≡ w → x ≡ Number.Good n → x' ≡ number_of v' → v' ≡ w' → x' ≡ Number.Good m → t ≡ list_word v'' → v'' ≡ w'' → t ≡ b → r ≡ proposer_by (Number.Good n) (Number.Good m) b → r ≡ proposer_by (number_of w) (number_of w') (list_word w'')
+all v w v' w' v'' w'' n m x x' t b r e f h e' f' h' e'' f'' h'' g = rw (← f, ← e, h, ← f', ← e', h', ← f'', ← e'', h'', g)
 
 pub returns-then-words-ne4 : goal.returns-then-words-ne4
 returns-then-words-ne4 c = search not_as_many depth 9

@@ -13,8 +13,8 @@ use Rattle.script_message.proofs.message.read_message.Goals as goal
 no_number : (name v w : List ℕ) (ws : ℕ → List ℕ) (n : ℕ) (x : Number) → x ≡ number_of v → v ≡ w → x ≡ Number.Bad → Message.Bad ≡ numbered_by name ws n (number_of w)
 no_number name v w ws n x e f h = rw (← f, ← e, h)
 
-numbered : (name v w w′ : List ℕ) (ws : ℕ → List ℕ) (n a : ℕ) (x : Number) (r : Message) → x ≡ number_of v → v ≡ w → x ≡ Number.Good a → r ≡ numbered_in name ws n a → name ≡ w′ → r ≡ numbered_by w′ ws n (number_of w)
-numbered name v w w′ ws n a x r e f h g k = rw (← f, ← e, h, ← k, g)
+numbered : (name v w w' : List ℕ) (ws : ℕ → List ℕ) (n a : ℕ) (x : Number) (r : Message) → x ≡ number_of v → v ≡ w → x ≡ Number.Good a → r ≡ numbered_in name ws n a → name ≡ w' → r ≡ numbered_by w' ws n (number_of w)
+numbered name v w w' ws n a x r e f h g k = rw (← f, ← e, h, ← k, g)
 
 pub returns-then-same : goal.returns-then-same
 unfolding message_in

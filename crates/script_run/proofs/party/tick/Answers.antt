@@ -14,9 +14,9 @@ use Rattle.script_run.specs.Obeyed.{ran, ticked_in, tick_in, Held, Stepped}
 use Rattle.script_run.specs.Laws.{first_of, second_of, lent}
 use Rattle.script_run.proofs.party.tick.Goals as goal
 
-at_proposer : (s r : Run) (t a out t′ a' out' : List ℕ) (time : ℕ) → s.proposer ≡ true → Stepped s out (ticked_in s t a time) r t′ a' out' → Stepped s out (tick_in s t a time) r t′ a' out'
+at_proposer : (s r : Run) (t a out t' a' out' : List ℕ) (time : ℕ) → s.proposer ≡ true → Stepped s out (ticked_in s t a time) r t' a' out' → Stepped s out (tick_in s t a time) r t' a' out'
 unfolding tick_in
-at_proposer s r t a out t′ a' out' time e k = first_of s r out t′ a' out' s.proposer _ _ e k
+at_proposer s r t a out t' a' out' time e k = first_of s r out t' a' out' s.proposer _ _ e k
 
 at_acceptor : (s r : Run) (t a out out' : List ℕ) (at time : ℕ) (x : Answer) → Held s t a out → s.proposer ≡ false → x ≡ Answer.Nothing → Put out s.at (answer_line x (take (s.area - 0) (drop 0 a))) at out' → r ≡ put_up_to s at → Stepped s out (tick_in s t a time) r t a out'
 unfolding tick_in

@@ -27,11 +27,11 @@ unfolding fresh_in
 all_zeros s u r t a out ys a' line capacity bytes n p held h g ey ea eu er =
     let reach : length (take (s.reach - 0) (drop 0 t)) ≡ s.reach = rw (lent t s.reach, length-take s.reach t) (omega (arith, held.1)) in
     let zeros : ys ≡ replicate s.reach 0 = ey ∙ ap (λ (k : ℕ). replicate k 0) reach in
-    let t′ : put_mid 0 (s.reach - 0) t ys ≡ lent_back t s.reach (replicate s.reach 0) = back t ys s.reach ∙ ap (lent_back t s.reach) zeros in
+    let t' : put_mid 0 (s.reach - 0) t ys ≡ lent_back t s.reach (replicate s.reach 0) = back t ys s.reach ∙ ap (lent_back t s.reach) zeros in
     let long : length (lent_back t s.reach (replicate s.reach 0)) ≡ length t = rw (length-append (replicate s.reach 0) (drop s.reach t), length-replicate {A = ℕ} s.reach 0, length-drop s.reach t) (omega (arith, held.1)) in
     let wide : length (replicate {A = ℕ} (length a) 0) ≡ length a = length-replicate {A = ℕ} (length a) 0 in
     let new : r ≡ lending (cleared s) p capacity bytes n = er ∙ ap (λ (x : Run). lending x p capacity bytes n) eu in
-    rw (le-ltb (length t) bytes h, le-ltb (length a) n g, t′, ea)
+    rw (le-ltb (length t) bytes h, le-ltb (length a) n g, t', ea)
     (quiet s (lending (cleared s) p capacity bytes n) r _ _ out held.3 refl new (omega (arith, long, h), omega (arith, long, h), omega (arith, wide, g), held.3))
 
 pub returns-then-table-bytes : goal.returns-then-table-bytes

@@ -21,9 +21,9 @@ too_long : (s r : Run) (t a out out' v : List ℕ) (line at : ℕ) → at ≤ le
 unfolding poke_in
 too_long s r t a out out' v line at h g k = rw (le-ltb (length t) at h, lt-ltb (length t - at) (length v) g) k
 
-stored : (s r : Run) (t a out t′ v : List ℕ) (line at : ℕ) → Held s t a out → at ≤ length t → length v ≤ length t - at → t′ ≡ sets t at v → r ≡ reached s (at + length v) → Stepped s out (poke_in s t a line at v) r t′ a out
+stored : (s r : Run) (t a out t' v : List ℕ) (line at : ℕ) → Held s t a out → at ≤ length t → length v ≤ length t - at → t' ≡ sets t at v → r ≡ reached s (at + length v) → Stepped s out (poke_in s t a line at v) r t' a out
 unfolding poke_in
-stored s r t a out t′ v line at held h g e f =
+stored s r t a out t' v line at held h g e f =
     let long : length (sets t at v) ≡ length t = length-sets t at v in
     rw (le-ltb (length t) at h, le-ltb (length t - at) (length v) g, e)
     (quiet s (reached s (at + length v)) r (sets t at v) a out held.3 refl f (omega (arith, long, held.0), omega (arith, long, held.1, g, h), held.2, held.3))

@@ -12,9 +12,9 @@ too_many : (s r : Run) (t a out out' : List ℕ) (line registers : ℕ) → 1024
 unfolding acceptor_in
 too_many s r t a out out' line registers h k = rw (lt-ltb 1024 registers h) k
 
-few : (s r : Run) (t a out t′ a' out' : List ℕ) (line registers : ℕ) → registers ≤ 1024 → Stepped s out (fresh_in s t a line false registers (registers * 512) 256) r t′ a' out' → Stepped s out (acceptor_in s t a line registers) r t′ a' out'
+few : (s r : Run) (t a out t' a' out' : List ℕ) (line registers : ℕ) → registers ≤ 1024 → Stepped s out (fresh_in s t a line false registers (registers * 512) 256) r t' a' out' → Stepped s out (acceptor_in s t a line registers) r t' a' out'
 unfolding acceptor_in
-few s r t a out t′ a' out' line registers h k = rw (le-ltb 1024 registers h) k
+few s r t a out t' a' out' line registers h k = rw (le-ltb 1024 registers h) k
 
 pub returns-then-registers-gt-REGISTERS_MOST : goal.returns-then-registers-gt-REGISTERS_MOST
 returns-then-registers-gt-REGISTERS_MOST c = search too_many depth 9
