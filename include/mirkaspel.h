@@ -1,6 +1,6 @@
 /* Mirkaspel's acceptor and proposer for C: libmirkaspel.a (`tests/build-library`, x86-64).
 
-   What is proved. Each function meets the contract in crates/mirkaspel/src/lib.rt for every number and byte that is lent: it traps on
+   What is proved. Each function meets the contract in crates/mirkaspel_c/src/lib.rt for every number and byte that is lent: it traps on
    nothing, ends, and its answer, and every byte of every area, is what document 01's rules say. This header is not part of the proof:
    nothing checks it against that file but the example that is built and run by the tests.
 

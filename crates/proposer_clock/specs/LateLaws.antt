@@ -101,8 +101,8 @@ module _ (s : Proposer) (t : ℕ) (l : List (Option Pending)) where
     unfolding late_of
     before_others i f e h o true em = late_at (suc i) (rw (o, f.lowest p.ballot, em) (ap suc e)) (omega arith) (lowest_behind i f o em)
     before_others i f e h o false em =
-        let none_below : none_below s t p.ballot l ≡ true = f.lowest p.ballot ∙ rw em in
-        late_at 0 (rw (o, none_below)) (omega arith)
+        let lower : none_below s t p.ballot l ≡ true = f.lowest p.ballot ∙ rw em in
+        late_at 0 (rw (o, lower)) (omega arith)
         (lowest_here o (ap (insert p) f.first ∙ insert_first p f.pending (late_ones s t (set l i none)) em ∙ ap (λ (r : List Pending). p ∷ r) (sym f.first))
         (λ b. rw (f.lowest b) (lower_decides b p.ballot f.pending.ballot em)))
 
