@@ -1,6 +1,7 @@
-// The crate's lib.rs: ballots, requests, messages, errors and their predicates, in the crate's names. An enum can hold no bytes, so the
-// bytes of a message are lent beside it: `key`; `value`, the message's own value (of a `Cas` the old one); `other`, the new value of a
-// `Cas`, or the value inside an error; and `list`. specs/Message.antt says which message an enum and its bytes are.
+// The crate's lib.rs: ballots, requests, messages, errors and their predicates, in the crate's names. The enums hold no bytes
+// (docs/DECISIONS.md); the bytes of a message are lent beside them: `key`; `value`, the message's own value (of a `Cas` the old one);
+// `other`, the new value of a `Cas`, or the value inside an error; and `list`. specs/Message.antt says which message an enum and its bytes
+// are.
 #![tactic(auto)]
 
 mod answer;

@@ -1,5 +1,5 @@
-// The parties' operations for callers in C and Rust, which include/mirkaspel.h declares: the same operations, with a message and an answer in
-// numbers. Any numbers and bytes are taken.
+// The parties' operations for callers in C and Rust, with a message and an answer in numbers. Any numbers and bytes are taken. Crate
+// mirkaspel_c exports them, and include/mirkaspel.h declares them.
 #![tactic(auto)]
 
 ghost use Rattle.std.specs.Prelude.{◌≡◌};
