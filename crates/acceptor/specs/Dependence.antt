@@ -5,7 +5,7 @@ use Rattle.std.proofs.Math.Path.{refl}
 use Rattle.std.proofs.Common.{sym, ap, ◌∙◌, arith, length-append}
 use Rattle.std.proofs.Math.Bool.{true, false}
 use Rattle.std.proofs.lemmas.Bool.{false≢true}
-use Rattle.std.proofs.Math.Option.{Option, none, some}
+use Rattle.std.specs.Prelude.{Option, None, Some}
 use Rattle.std.proofs.lemmas.List.{length-replicate}
 use Rattle.leaf_fields.specs.Fields.{all_zero, padded}
 use Rattle.leaf_fields.specs.Laws.{length-to_le, and_true}
@@ -55,8 +55,8 @@ others_refuse (refused Refusal.ClockBack) = false
 
 -- the answer that a message and its key's register make
 abbrev pub told_alone : Address → Bool → Option Job → (Key → Register) → Told
-told_alone from fits none reg = refused Refusal.WrongKind
-told_alone from fits (some j) reg = cond fits (one from (j.work (reg j.key)).answer) (refused Refusal.OverLimit)
+told_alone from fits None reg = refused Refusal.WrongKind
+told_alone from fits (Some j) reg = cond fits (one from (j.work (reg j.key)).answer) (refused Refusal.OverLimit)
 
 -- x is y, unless it is one of those refusals
 abbrev Alone : Told → Told → Type 0
@@ -76,8 +76,8 @@ module _ (l : List Slot) (from : Address) where
   alone_tests : (b : Bool) (o : Option Job) (fits : Bool) → Alone (unless (first_due (test (not b || key_twice l o) Refusal.Damaged ∷ test (foreign o) Refusal.WrongKind ∷ test (not fits) Refusal.OverLimit ∷ test (no_block l o) Refusal.NoRoom ∷ [])) (perform l from o)).told (told_alone from fits o (λ k. register_for k l))
   unfolding work_on
   alone_tests false o fits h = absurd (false≢true (sym h))
-  alone_tests true none fits h = refl
-  alone_tests true (some j) fits h = alone_place j (where_is j.key l) (work_on l j).stores fits h
+  alone_tests true None fits h = refl
+  alone_tests true (Some j) fits h = alone_place j (where_is j.key l) (work_on l j).stores fits h
 
   -- an answer that is none of those refusals is made of the message and its key's register
   pub told_alone_lem : (m : Message) → others_refuse (receive l from m).told ≡ false → (receive l from m).told ≡ told_alone from (within_limits from m) (job_of m) (λ k. register_for k l)
@@ -85,12 +85,12 @@ module _ (l : List Slot) (from : Address) where
   told_alone_lem m h = alone_tests (none_bad l) (job_of m) (within_limits from m) h
 
 -- two tables with the same register for the message's key answer it alike, but for refusals 2 and 11
-pub answer_depends : (l l' : List Slot) (from : Address) (m : Message) → ((j : Job) → job_of m ≡ some j → register_for j.key l ≡ register_for j.key l') → others_refuse (receive l from m).told ≡ false → others_refuse (receive l' from m).told ≡ false → (receive l from m).told ≡ (receive l' from m).told
+pub answer_depends : (l l' : List Slot) (from : Address) (m : Message) → ((j : Job) → job_of m ≡ Some j → register_for j.key l ≡ register_for j.key l') → others_refuse (receive l from m).told ≡ false → others_refuse (receive l' from m).told ≡ false → (receive l from m).told ≡ (receive l' from m).told
 answer_depends l l' from m e h h' = told_alone_lem l from m h ∙ go (job_of m) refl ∙ sym (told_alone_lem l' from m h')
   where
     go : (o : Option Job) → job_of m ≡ o → told_alone from (within_limits from m) o (λ k. register_for k l) ≡ told_alone from (within_limits from m) o (λ k. register_for k l')
-    go none eo = refl
-    go (some j) eo = ap (λ (r : Register). cond (within_limits from m) (one from (j.work r).answer) (refused Refusal.OverLimit)) (e j eo)
+    go None eo = refl
+    go (Some j) eo = ap (λ (r : Register). cond (within_limits from m) (one from (j.work r).answer) (refused Refusal.OverLimit)) (e j eo)
 
 -- ---- the other blocks
 
@@ -122,11 +122,11 @@ key_for k l = go (where_is k l) refl
     go Found.Full e = refl
     go Found.Twice e = refl
 
-pub none_not_some : (j : Job) → none ≡ some j → ⊥
+pub none_not_some : (j : Job) → None ≡ Some j → ⊥
 none_not_some j e = let z : ◌≡◌ {A = ℕ} 0 1 = cc in omega arith
 
 -- a work keeps the key
-next-key : (m : Message) (j : Job) (o : Register) → job_of m ≡ some j → (j.work o).next.key ≡ o.key
+next-key : (m : Message) (j : Job) (o : Register) → job_of m ≡ Some j → (j.work o).next.key ≡ o.key
 next-key (Message.ClientRequest id r) j o e = absurd (none_not_some j e)
 next-key (Message.ClientResponse id r) j o e = absurd (none_not_some j e)
 next-key (Message.SetAcceptAcceptors l) j o e = absurd (none_not_some j e)
@@ -184,7 +184,7 @@ module _ (t : List ℕ) (n : ℕ) (lent : Lent t n) where
       go Found.Twice e = omega arith
 
 -- what a message within the limits makes of a register is as short
-next_short : (m : Message) (from : Address) (j : Job) (o : Register) → job_of m ≡ some j → within_limits from m ≡ true → o.key ≡ j.key → length (bytes_of o.value) ≤ value_most → Short (j.work o).next
+next_short : (m : Message) (from : Address) (j : Job) (o : Register) → job_of m ≡ Some j → within_limits from m ≡ true → o.key ≡ j.key → length (bytes_of o.value) ≤ value_most → Short (j.work o).next
 unfolding within_limits
 next_short (Message.ClientRequest id r) from j o e lim ek h = absurd (none_not_some j e)
 next_short (Message.ClientResponse id r) from j o e lim ek h = absurd (none_not_some j e)
@@ -237,7 +237,7 @@ module _ (t : List ℕ) (n : ℕ) (a : List ℕ) (from : Address) (m : Message) 
       go (put i r) e = length_put i r e
 
   -- a block with another key stays as it was, byte for byte
-  pub others_kept : (p : ℕ) (r : Register) → p < n → slot_of (block_at t p) ≡ used r → ((j : Job) → job_of m ≡ some j → j.key ≡ r.key → ⊥) → block_at (stored t (outcome_on t n a from m).store) p ≡ block_at t p
+  pub others_kept : (p : ℕ) (r : Register) → p < n → slot_of (block_at t p) ≡ used r → ((j : Job) → job_of m ≡ Some j → j.key ≡ r.key → ⊥) → block_at (stored t (outcome_on t n a from m).store) p ≡ block_at t p
   others_kept p r h here other = go (outcome_on t n a from m).store refl
     where
       -- the key's block is not that one

@@ -5,7 +5,7 @@ use Rattle.std.proofs.Math.Path.{refl, ap}
 use Rattle.std.proofs.Common.{sym, ◌∙◌, arith, eq-eqb, ltb-true, ltb-false, le-ltb}
 use Rattle.std.proofs.Math.Bool.{true}
 use Rattle.std.proofs.lemmas.Bool.{false≢true}
-use Rattle.std.proofs.Math.Option.{Option, none, some}
+use Rattle.std.specs.Prelude.{Option, None, Some}
 use Rattle.std.proofs.Math.ListN.{drop}
 use Rattle.leaf_fields.specs.Fields.{same, Bytes}
 use Rattle.leaf_fields.specs.Laws.{and_true, same-true, bytes_take, bytes_drop, bytes_part}
@@ -88,7 +88,7 @@ lawful_for t n lent ht k short hk = go (where_is k (slots t n)) refl
     go Found.Twice e = lawful_fresh
 
 -- the key of a job is bytes
-key_bytes : (m : Message) (j : Job) → job_of m ≡ some j → Proper m → Bytes j.key
+key_bytes : (m : Message) (j : Job) → job_of m ≡ Some j → Proper m → Bytes j.key
 key_bytes (Message.ClientRequest id r) j e p = absurd (none_not_some j e)
 key_bytes (Message.ClientResponse id r) j e p = absurd (none_not_some j e)
 key_bytes (Message.SetAcceptAcceptors l) j e p = absurd (none_not_some j e)
@@ -103,7 +103,7 @@ key_bytes (Message.AcceptReq b k v) j e p =
     rw ej p.1
 
 -- a work that stores makes a lawful register of a lawful one, but for the value's length
-next_lawful : (m : Message) (j : Job) (o : Register) → job_of m ≡ some j → Proper m → Lawful o → length (bytes_of (j.work o).next.value) ≤ value_most → (j.work o).stores ≡ true → Lawful (j.work o).next
+next_lawful : (m : Message) (j : Job) (o : Register) → job_of m ≡ Some j → Proper m → Lawful o → length (bytes_of (j.work o).next.value) ≤ value_most → (j.work o).stores ≡ true → Lawful (j.work o).next
 next_lawful (Message.ClientRequest id r) j o e p ok h s = absurd (none_not_some j e)
 next_lawful (Message.ClientResponse id r) j o e p ok h s = absurd (none_not_some j e)
 next_lawful (Message.SetAcceptAcceptors l) j o e p ok h s = absurd (none_not_some j e)
@@ -212,18 +212,18 @@ twice_counted k l = go (ltb 1 (count (holds k) l)) (first_from (holds k) 0 l) (f
   where
     go : (c : Bool) (o f : Option ℕ) → is_twice (cond c Found.Twice (found_by o f)) ≡ c
     go true o f = refl
-    go false none none = refl
-    go false none (some i) = refl
-    go false (some i) f = refl
+    go false None None = refl
+    go false None (Some i) = refl
+    go false (Some i) f = refl
 
 -- a key that takes a free block is counted nowhere
 new_uncounted : (k : Key) (l : List Slot) (i : ℕ) → where_is k l ≡ Found.Free i → count (holds k) l ≡ 0
 unfolding where_is
 new_uncounted k l i e = go (ltb 1 (count (holds k) l)) e
   where
-    by : (o f : Option ℕ) → found_by o f ≡ Found.Free i → o ≡ none
-    by none f e = refl
-    by (some j) f e = cc
+    by : (o f : Option ℕ) → found_by o f ≡ Found.Free i → o ≡ None
+    by None f e = refl
+    by (Some j) f e = cc
 
     go : (c : Bool) → cond c Found.Twice (found_by (first_from (holds k) 0 l) (first_from is_free 0 l)) ≡ Found.Free i → count (holds k) l ≡ 0
     go true e =
@@ -299,8 +299,8 @@ unfolding receive
 never_damaged l from m sound h e = performed (job_of m) (passed (not (none_bad l) || key_twice l (job_of m)) (foreign (job_of m)) (not (within_limits from m)) (no_block l (job_of m)) (rw sound (once (job_of m))) e)
   where
     once : (o : Option Job) → key_twice l o ≡ false
-    once none = refl
-    once (some j) = h j.key
+    once None = refl
+    once (Some j) = h j.key
 
     -- the other tests bring other refusals
     passed : (d f g x : Bool) → d ≡ false → (unless (first_due (test d Refusal.Damaged ∷ test f Refusal.WrongKind ∷ test g Refusal.OverLimit ∷ test x Refusal.NoRoom ∷ [])) (perform l from (job_of m))).told ≡ refused Refusal.Damaged → (perform l from (job_of m)).told ≡ refused Refusal.Damaged
@@ -311,10 +311,10 @@ never_damaged l from m sound h e = performed (job_of m) (passed (not (none_bad l
     passed false false false false ed e = e
 
     performed : (o : Option Job) → (perform l from o).told ≡ refused Refusal.Damaged → ⊥
-    performed none e =
+    performed None e =
         let z : ◌≡◌ {A = ℕ} 0 1 = cc in
         omega arith
-    performed (some j) e =
+    performed (Some j) e =
         let z : ◌≡◌ {A = ℕ} 0 1 = cc in
         omega arith
 

@@ -4,7 +4,7 @@ use Rattle.std.specs.Prelude.{◌≡◌, Bool, not, List, [], ◌∷◌, ℕ, �
 use Rattle.std.proofs.Math.Path.{refl, ap}
 use Rattle.std.proofs.Common.{sym, ◌∙◌, arith}
 use Rattle.std.proofs.Math.Bool.{true, false, cond}
-use Rattle.std.proofs.Math.Option.{Option, none, some}
+use Rattle.std.specs.Prelude.{Option, None, Some}
 use Rattle.std.proofs.lemmas.List.Edits.{sets}
 use borrow.Author.Tests.{eq-eqb, ne_eqb, le-ltb}
 use Rattle.leaf_fields.specs.Laws.{and_true}
@@ -31,7 +31,7 @@ use Rattle.acceptor.specs.Contract.{outcome_on, stored, Received, Ready, Placed}
 
 -- ---- the outcome, by where the key is
 
-module _ (t : List ℕ) (n : ℕ) (a : List ℕ) (from : Address) (m : Message) (j : Job) (jm : job_of m ≡ some j) (lent : Lent t n) (la : length a ≡ 256) where
+module _ (t : List ℕ) (n : ℕ) (a : List ℕ) (from : Address) (m : Message) (j : Job) (jm : job_of m ≡ Some j) (lent : Lent t n) (la : length a ≡ 256) where
   on_table : outcome_on t n a from m ≡ receive (slots t n) from m
   unfolding outcome_on
   on_table = rw (lent.sized, eq-eqb (length a) 256 la)
@@ -86,7 +86,7 @@ placed_by t n a from m w i true r t' a' over done back p ea =
     by true = refl
     by false = refl
 
-module _ (t : List ℕ) (n : ℕ) (a : List ℕ) (from : Address) (m : Message) (j : Job) (jm : job_of m ≡ some j) (fits : Bool) (ready : Ready t n from m fits) (la : length a ≡ 256) where
+module _ (t : List ℕ) (n : ℕ) (a : List ℕ) (from : Address) (m : Message) (j : Job) (jm : job_of m ≡ Some j) (fits : Bool) (ready : Ready t n from m fits) (la : length a ≡ 256) where
   pub twice_received : where_is j.key (slots t n) ≡ Found.Twice → Received t n a from m (Answer.Refused Refusal.Damaged) t a
   twice_received e = refused_by_lem t n a from m Refusal.Damaged (twice_outcome t n a from m j jm ready.lent la e)
 
@@ -229,6 +229,6 @@ pub damage_refused : (t : List ℕ) (n : ℕ) (a : List ℕ) (from : Address) (m
 unfolding outcome_on receive
 damage_refused t n a from m h la d = refused_by_lem t n a from m Refusal.Damaged (rw (h, eq-eqb (length a) 256 la, d))
 
-pub kind_refused : (t : List ℕ) (n : ℕ) (a : List ℕ) (from : Address) (m : Message) → is_sized t n ≡ true → length a ≡ 256 → none_bad (slots t n) ≡ true → job_of m ≡ none → Received t n a from m (Answer.Refused Refusal.WrongKind) t a
+pub kind_refused : (t : List ℕ) (n : ℕ) (a : List ℕ) (from : Address) (m : Message) → is_sized t n ≡ true → length a ≡ 256 → none_bad (slots t n) ≡ true → job_of m ≡ None → Received t n a from m (Answer.Refused Refusal.WrongKind) t a
 unfolding outcome_on receive
 kind_refused t n a from m h la s f = refused_by_lem t n a from m Refusal.WrongKind (rw (h, eq-eqb (length a) 256 la, s, f))

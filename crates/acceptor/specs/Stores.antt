@@ -2,7 +2,7 @@
 -- Assumes nothing.
 use Rattle.std.specs.Prelude.{◌≡◌, Bool, true, false, not, cond, ◌&&◌, ◌||◌, List, [], ◌∷◌, ℕ, eqb, length}
 use Rattle.std.proofs.Math.Path.{refl}
-use Rattle.std.proofs.Math.Option.{Option, none, some}
+use Rattle.std.specs.Prelude.{Option, None, Some}
 use Rattle.std.proofs.Common.{arith, eqb-true}
 use Rattle.messages.specs.declared.Address.{Address}
 use Rattle.messages.specs.declared.answer.Refusal.{Refusal}
@@ -25,7 +25,7 @@ pub data Takes (k : Key) (l : List Slot) (i : ℕ) : Type 0 where
 -- what is known where a message stores register r at place i
 pub record Stored (l : List Slot) (from : Address) (m : Message) (i : ℕ) (r : Register) : Type 0 where
   pub job : Job
-  pub is_job : job_of m ≡ some job
+  pub is_job : job_of m ≡ Some job
   pub sound : none_bad l ≡ true
   pub limits : within_limits from m ≡ true
   pub takes : Takes job.key l i
@@ -43,7 +43,7 @@ keep_not_put i r e = let z : ◌≡◌ {A = ℕ} 0 1 = cc in omega arith
 
 module _ (l : List Slot) (from : Address) (m : Message) (i : ℕ) (r : Register) where
   -- by where the key is, and whether the work stores
-  by_place : (j : Job) → job_of m ≡ some j → none_bad l ≡ true → within_limits from m ≡ true → (f : Found) (s : Bool) → where_is j.key l ≡ f → (work_on l j).stores ≡ s → (unless (first_due (test (is_twice f) Refusal.Damaged ∷ test (is_full f && s) Refusal.NoRoom ∷ [])) (outcome (cond s (put_at f (work_on l j).next) keep) (one from (work_on l j).answer))).store ≡ put i r → Stored l from m i r
+  by_place : (j : Job) → job_of m ≡ Some j → none_bad l ≡ true → within_limits from m ≡ true → (f : Found) (s : Bool) → where_is j.key l ≡ f → (work_on l j).stores ≡ s → (unless (first_due (test (is_twice f) Refusal.Damaged ∷ test (is_full f && s) Refusal.NoRoom ∷ [])) (outcome (cond s (put_at f (work_on l j).next) keep) (one from (work_on l j).answer))).store ≡ put i r → Stored l from m i r
   by_place j jm ok lim (Found.At k) true ef es e =
       let here : k ≡ i = cc in
       record { job = j; is_job = jm; sound = ok; limits = lim; takes = known (rw here at ef); stores = es; next = cc }
@@ -59,13 +59,13 @@ module _ (l : List Slot) (from : Address) (m : Message) (i : ℕ) (r : Register)
   -- by the tests that need no place
   by_tests : (b : Bool) (o : Option Job) (f : Bool) → none_bad l ≡ b → job_of m ≡ o → within_limits from m ≡ f → (unless (first_due (test (not b || key_twice l o) Refusal.Damaged ∷ test (foreign o) Refusal.WrongKind ∷ test (not f) Refusal.OverLimit ∷ test (no_block l o) Refusal.NoRoom ∷ [])) (perform l from o)).store ≡ put i r → Stored l from m i r
   by_tests false o f eb eo ef e = absurd (keep_not_put i r e)
-  by_tests true none f eb eo ef e = absurd (keep_not_put i r e)
-  by_tests true (some j) false eb eo ef e = absurd (keep_not_put i r (over (is_twice (where_is j.key l)) e))
+  by_tests true None f eb eo ef e = absurd (keep_not_put i r e)
+  by_tests true (Some j) false eb eo ef e = absurd (keep_not_put i r (over (is_twice (where_is j.key l)) e))
     where
-      over : (d : Bool) → (unless (first_due (test d Refusal.Damaged ∷ test true Refusal.OverLimit ∷ [])) (perform l from (some j))).store ≡ put i r → keep ≡ put i r
+      over : (d : Bool) → (unless (first_due (test d Refusal.Damaged ∷ test true Refusal.OverLimit ∷ [])) (perform l from (Some j))).store ≡ put i r → keep ≡ put i r
       over true h = h
       over false h = h
-  by_tests true (some j) true eb eo ef e = by_place j eo eb ef (where_is j.key l) (work_on l j).stores refl refl e
+  by_tests true (Some j) true eb eo ef e = by_place j eo eb ef (where_is j.key l) (work_on l j).stores refl refl e
 
   pub stored_by : (receive l from m).store ≡ put i r → Stored l from m i r
   unfolding receive

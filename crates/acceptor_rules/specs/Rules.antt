@@ -1,7 +1,7 @@
 -- 01's section 'Acceptor', on values: what a message does to a table and what it is answered. The contract of the code and the runs of a plant are made of this page.
 -- Assumes nothing.
 use Rattle.std.specs.Prelude.{Bool, true, false, not, cond, ◌&&◌, ◌||◌, List, [], ◌∷◌, ℕ}
-use Rattle.std.proofs.Math.Option.{Option, none, some}
+use Rattle.std.specs.Prelude.{Option, None, Some}
 use Rattle.messages.specs.declared.Address.{Address}
 use Rattle.messages.specs.declared.Ballot.{Ballot}
 use Rattle.messages.specs.declared.answer.Refusal.{Refusal}
@@ -52,14 +52,14 @@ abbrev pub acceptance : Ballot → Key → Option Value → Job
 acceptance b k v = record { key = k; work = accepted b v }
 
 abbrev pub job_of : Message → Option Job
-job_of (Message.ClientRequest id r) = none
-job_of (Message.ClientResponse id r) = none
-job_of (Message.SetAcceptAcceptors l) = none
-job_of (Message.SetProposeAcceptors l) = none
-job_of (Message.ProposeReq b k) = some (proposal b k)
-job_of (Message.ProposeRes b a v r) = none
-job_of (Message.AcceptReq b k v) = some (acceptance b k v)
-job_of (Message.AcceptRes b r) = none
+job_of (Message.ClientRequest id r) = None
+job_of (Message.ClientResponse id r) = None
+job_of (Message.SetAcceptAcceptors l) = None
+job_of (Message.SetProposeAcceptors l) = None
+job_of (Message.ProposeReq b k) = Some (proposal b k)
+job_of (Message.ProposeRes b a v r) = None
+job_of (Message.AcceptReq b k v) = Some (acceptance b k v)
+job_of (Message.AcceptRes b r) = None
 
 -- ---- a message on a table
 
@@ -82,18 +82,18 @@ work_on l j = j.work (register_by j.key l (where_is j.key l))
 
 -- "two blocks hold the key of the `ProposeReq` or `AcceptReq`"
 abbrev pub key_twice : List Slot → Option Job → Bool
-key_twice l none = false
-key_twice l (some j) = is_twice (where_is j.key l)
+key_twice l None = false
+key_twice l (Some j) = is_twice (where_is j.key l)
 
 -- "the kind isn't for this party"
 abbrev pub foreign : Option Job → Bool
-foreign none = true
-foreign (some j) = false
+foreign None = true
+foreign (Some j) = false
 
 -- "a block .. is needed and none is free"
 abbrev pub no_block : List Slot → Option Job → Bool
-no_block l none = false
-no_block l (some j) = is_full (where_is j.key l) && (work_on l j).stores
+no_block l None = false
+no_block l (Some j) = is_full (where_is j.key l) && (work_on l j).stores
 
 -- the refusals of a table, 2, 3, 4 and 11, in rank order
 abbrev pub table_tests : List Slot → Address → Message → List Test
@@ -113,14 +113,14 @@ put_at Found.Twice r = keep
 
 -- a job that nothing refuses
 abbrev pub perform : List Slot → Address → Option Job → Outcome
-perform l from none = outcome keep (refused Refusal.WrongKind)
-perform l from (some j) =
+perform l from None = outcome keep (refused Refusal.WrongKind)
+perform l from (Some j) =
     outcome (cond (work_on l j).stores (put_at (where_is j.key l) (work_on l j).next) keep) (one from (work_on l j).answer)
 
 -- "Each sends nothing and leaves state and every lent area byte for byte."
 abbrev pub unless : Option Refusal → Outcome → Outcome
-unless (some r) o = outcome keep (refused r)
-unless none o = o
+unless (Some r) o = outcome keep (refused r)
+unless None o = o
 
 -- the acceptor: a message from an address, on the blocks of its table
 unfoldable pub receive : List Slot → Address → Message → Outcome

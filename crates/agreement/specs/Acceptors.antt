@@ -6,7 +6,7 @@ use Rattle.std.proofs.Common.{◌∙◌, arith}
 use Rattle.std.proofs.Math.Bool.{true, false, false≢true}
 use mathlib.Core.List.Memᴰ
 use mathlib.Core.List.{List, [], ◌∷◌, ◌++◌}
-use Rattle.std.proofs.Math.Option.{Option}
+use Rattle.std.specs.Prelude.{Option}
 use Prim.Native.Nat.{ℕ}
 use Rattle.std.proofs.lemmas.Bool.{not-true}
 use Rattle.leaf_fields.specs.Fields.{same}
@@ -20,7 +20,7 @@ use Rattle.acceptor.specs.Stores.{Takes}
 use Rattle.acceptor.specs.Dependence.{register_for, key_for}
 use Rattle.acceptor.specs.Images.{stored_in}
 use Rattle.proposer_rules.specs.State.{Proposer}
-use Rattle.agreement.specs.Members.{In, Some, some_head, all_cons, all_append}
+use Rattle.agreement.specs.Members.{In, SomeOf, some_head, all_cons, all_append}
 use Rattle.agreement.specs.Order.{plant_order, NotAbove}
 use Rattle.agreement.specs.Majority.{Majority}
 use Rattle.agreement.specs.Core as C
@@ -74,7 +74,7 @@ module _ (fixed : List ℕ) where
     Heard (Message.SetProposeAcceptors k) = Unit {0}
     Heard (Message.ProposeReq b k) = UsedFor h.uses from b k
     Heard (Message.ProposeRes b c v r) = Unit {0}
-    Heard (Message.AcceptReq b k v) = Some h.choices (λ c. (c.by ≡ from) × (c.ballot ≡ b) × (valve plant_order c ≡ k) × (chosen plant_order c ≡ v))
+    Heard (Message.AcceptReq b k v) = SomeOf h.choices (λ c. (c.by ≡ from) × (c.ballot ≡ b) × (valve plant_order c ≡ k) × (chosen plant_order c ≡ v))
     Heard (Message.AcceptRes b r) = Unit {0}
 
     held_here : (k : Key) → holds_of (s.party a) k ≡ held_as (register_for k l)
@@ -148,7 +148,7 @@ module _ (fixed : List ℕ) where
       }
 
     -- a value is stored
-    module _ (b : Ballot) (k : Key) (v : Option Value) (i : ℕ) (takes : Takes k l i) (up : not_below b (register_for k l).seen ≡ true) (chose : Some h.choices (λ c. (c.by ≡ from) × (c.ballot ≡ b) × (valve plant_order c ≡ k) × (chosen plant_order c ≡ v))) where
+    module _ (b : Ballot) (k : Key) (v : Option Value) (i : ℕ) (takes : Takes k l i) (up : not_below b (register_for k l).seen ≡ true) (chose : SomeOf h.choices (λ c. (c.by ≡ from) × (c.ballot ≡ b) × (valve plant_order c ≡ k) × (chosen plant_order c ≡ v))) where
       abbrev accepted_register : Register
       accepted_register = register (register_for k l).key b b v
 
@@ -191,7 +191,7 @@ module _ (fixed : List ℕ) where
     after_proposal b k x o rejects_proposal = record { past = h; tied = keeps _ (only_frame _ tt) }
     after_proposal b k x o (promises i takes up) = record { past = promise_past b k i takes up x; tied = promise_tied b k i takes up x }
 
-    after_accept : (b : Ballot) (k : Key) (v : Option Value) → Some h.choices (λ c. (c.by ≡ from) × (c.ballot ≡ b) × (valve plant_order c ≡ k) × (chosen plant_order c ≡ v)) → (o : Outcome) → AcceptDoes l (address from) b k v o → TiedPlant (acceptor_does s a (Message.AcceptReq b k v) l o)
+    after_accept : (b : Ballot) (k : Key) (v : Option Value) → SomeOf h.choices (λ c. (c.by ≡ from) × (c.ballot ≡ b) × (valve plant_order c ≡ k) × (chosen plant_order c ≡ v)) → (o : Outcome) → AcceptDoes l (address from) b k v o → TiedPlant (acceptor_does s a (Message.AcceptReq b k v) l o)
     unfolding acceptor_does stored_in sent_by accepted_in accepted_from
     after_accept b k v x o (refuses_accept r) = record { past = h; tied = keeps [] no_frame }
     after_accept b k v x o rejects_accept = record { past = h; tied = keeps _ (only_frame _ tt) }

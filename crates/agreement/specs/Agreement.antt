@@ -4,7 +4,7 @@ use Rattle.std.specs.Prelude.{◌≡◌, true, List, [], ◌∷◌, ℕ, ◌≤�
 use Rattle.std.proofs.Math.Path.{refl, ap, subst}
 use Rattle.std.proofs.Common.{sym, ◌∙◌, subst₂, arith}
 use mathlib.Core.List.Memᴰ
-use Rattle.std.proofs.Math.Option.{Option, none, some}
+use Rattle.std.specs.Prelude.{Option, None, Some}
 use Rattle.std.proofs.Math.ListN.{length}
 use Rattle.messages.specs.declared.Ballot.{Ballot}
 use Rattle.messages.specs.Ballots.{ballot0, above}
@@ -12,7 +12,7 @@ use Rattle.messages.specs.Message.{Key, Value, Request, Result, Reply, Message}
 use Rattle.storage_block.specs.Block.{Slot}
 use Rattle.acceptor.specs.Dependence.{register_for}
 use Rattle.proposer_rules.specs.State.{Pending, Proposer, key_of}
-use Rattle.agreement.specs.Members.{either, In, Some, all_cons, pair_cons, one_more}
+use Rattle.agreement.specs.Members.{either, In, SomeOf, all_cons, pair_cons, one_more}
 use Rattle.agreement.specs.Order.{plant_order, counter_of}
 use Rattle.agreement.specs.Majority.{Majority, Common, Member, majorities_meet, someone}
 use Rattle.agreement.specs.Core.{made, chosen, valve, Acceptance, AcceptedBy, fresh_held, Sound, begun_sound}
@@ -28,10 +28,10 @@ use Rattle.agreement.specs.Steps.{proposer_hears, proposer_ticks}
 
 -- ---- the start
 
-idle_apart : (l : List (Option Pending)) → ((x : Option Pending) → In x l → x ≡ none) → Apart l
+idle_apart : (l : List (Option Pending)) → ((x : Option Pending) → In x l → x ≡ None) → Apart l
 idle_apart [] h = empty
-idle_apart (none ∷ l) h = idle (idle_apart l (λ x m. h x (Memᴰ.tail m)))
-idle_apart (some q ∷ l) h = absurd (none_not_some (sym (h (some q) (Memᴰ.head refl))))
+idle_apart (None ∷ l) h = idle (idle_apart l (λ x m. h x (Memᴰ.tail m)))
+idle_apart (Some q ∷ l) h = absurd (none_not_some (sym (h (Some q) (Memᴰ.head refl))))
 
 module _ (fixed : List ℕ) (s : Plant) (b : Begins fixed s) where
   abbrev no_past : Past
@@ -62,7 +62,7 @@ module _ (fixed : List ℕ) (s : Plant) (b : Begins fixed s) where
         propose_set = (b.one_set p P e).1;
         counted = λ u m. absurd (Memᴰ.not-nil m);
         apart = idle_apart P.places (b.nothing_pending p P e);
-        pending = λ q m. absurd (none_not_some (sym (b.nothing_pending p P e (some q) m)));
+        pending = λ q m. absurd (none_not_some (sym (b.nothing_pending p P e (Some q) m)));
       };
       sent = λ f m. absurd (no_frame f m);
       arrived = λ u m. absurd (Memᴰ.not-nil m);
@@ -205,7 +205,7 @@ module _ (fixed : List ℕ) where
 
     -- the choice that a majority accepted
     module _ (k : Key) (b : Ballot) (v : Option Value) (most : MajorityAccepted fixed s k b v) where
-      its_choice : Some h.choices (λ c. (valve plant_order c ≡ k) × (c.ballot ≡ b) × (chosen plant_order c ≡ v))
+      its_choice : SomeOf h.choices (λ c. (valve plant_order c ≡ k) × (c.ballot ≡ b) × (chosen plant_order c ≡ v))
       its_choice =
           let x = someone most.majority in
           let w = most.all x.who x.there in
@@ -256,7 +256,7 @@ module _ (fixed : List ℕ) where
 
     -- what a table holds as accepted is fresh, or an acceptance at a ballot above 0
     pub data Logged (a : ℕ) (k : Key) (b : Ballot) (v : Option Value) : Type 0 where
-      never : b ≡ ballot0 → v ≡ none → Logged a k b v
+      never : b ≡ ballot0 → v ≡ None → Logged a k b v
       accepted_there : (b ≡ ballot0 → ⊥) → AcceptedBy plant_order s.acceptances a k b v → Logged a k b v
 
     logged : (a : ℕ) (l : List Slot) → s.party a ≡ acceptor l → (k : Key) → Logged a k (register_for k l).accepted (register_for k l).value
@@ -288,7 +288,7 @@ module _ (fixed : List ℕ) where
       same_values s x.past x.tied a c k _ _ _ _ (logged s x.past x.tied a l el k) (logged s x.past x.tied c m em k) e
 
   -- "pending ballots are distinct and from 1 to the counter", as far as the counter
-  pub ballots_apart : (start : Plant) → Begins fixed start → {s : Plant} → Run fixed start s → (p : ℕ) (P : Proposer) → s.party p ≡ proposer P → Apart P.places × ((q : Pending) → In (some q) P.places → counter_of q.ballot ≤ P.counter)
+  pub ballots_apart : (start : Plant) → Begins fixed start → {s : Plant} → Run fixed start s → (p : ℕ) (P : Proposer) → s.party p ≡ proposer P → Apart P.places × ((q : Pending) → In (Some q) P.places → counter_of q.ballot ≤ P.counter)
   ballots_apart start b {s} run p P e =
       let x = (run_tied start b run).tied.proposers p P e in (
         x.apart,

@@ -3,11 +3,11 @@
 use Rattle.std.specs.Prelude.{◌≡◌, refl, ◌⊎◌, List, [], ◌∷◌, ℕ}
 use Rattle.std.proofs.Common.{sym, ◌∙◌, subst, inl, inr}
 use mathlib.Core.List.Memᴰ
-use Rattle.std.proofs.Math.Option.{Option, none}
+use Rattle.std.specs.Prelude.{Option, None}
 use Rattle.messages.specs.Message.{Key, Value, Request}
 use Rattle.proposer_rules.specs.State.{key_of}
 use Rattle.proposer_rules.specs.Rules.{applied}
-use Rattle.agreement.specs.Members.{either, In, Some, all_cons, some_cons, some_head, pair_cons}
+use Rattle.agreement.specs.Members.{either, In, SomeOf, all_cons, some_cons, some_head, pair_cons}
 use Rattle.agreement.specs.Order.{Order, NotAbove, itself, below_not_above, then_below, not_above_trans}
 
 -- the value that a request makes of one
@@ -63,14 +63,14 @@ module _ (O : Order) where
   -- ---- what is said of them
 
   abbrev pub Accepted : List Acceptance → Key → Ballot → Option Value → Type 0
-  Accepted l k b v = Some l (λ w. (w.key ≡ k) × (w.ballot ≡ b) × (w.value ≡ v))
+  Accepted l k b v = SomeOf l (λ w. (w.key ≡ k) × (w.ballot ≡ b) × (w.value ≡ v))
 
   abbrev pub AcceptedBy : List Acceptance → ℕ → Key → Ballot → Option Value → Type 0
-  AcceptedBy l a k b v = Some l (λ w. (w.who ≡ a) × (w.key ≡ k) × (w.ballot ≡ b) × (w.value ≡ v))
+  AcceptedBy l a k b v = SomeOf l (λ w. (w.who ≡ a) × (w.key ≡ k) × (w.ballot ≡ b) × (w.value ≡ v))
 
   -- a ballot and its value are the fresh register's
   abbrev pub AtStart : Ballot → Option Value → Type 0
-  AtStart b v = (b ≡ zero) × (v ≡ none)
+  AtStart b v = (b ≡ zero) × (v ≡ None)
 
   pub record HeldOk (gs : List Grant) (l : List Acceptance) (a : ℕ) (k : Key) (h : Held) : Type 0 where
     pub not_negative : NotAbove O zero h.seen
@@ -87,11 +87,11 @@ module _ (O : Order) where
 
   -- acceptor a promised ballot b of key k to proposer p, and had accepted nothing above ballot s
   abbrev pub Backed : List Grant → ℕ → ℕ → Key → Ballot → Ballot → Type 0
-  Backed gs a p k b s = Some gs (λ g. (g.who ≡ a) × (g.to ≡ p) × (g.key ≡ k) × (g.ballot ≡ b) × NotAbove O g.had s)
+  Backed gs a p k b s = SomeOf gs (λ g. (g.who ≡ a) × (g.to ≡ p) × (g.key ≡ k) × (g.ballot ≡ b) × NotAbove O g.had s)
 
   -- a choice was made before c, of its key, at the ballot and with the value that c comes from
   abbrev pub Parent : List Choice → Choice → Type 0
-  Parent cs c = AtStart c.source c.old ⊎ Some cs (λ d. (valve d ≡ valve c) × (d.ballot ≡ c.source) × (chosen d ≡ c.old))
+  Parent cs c = AtStart c.source c.old ⊎ SomeOf cs (λ d. (valve d ≡ valve c) × (d.ballot ≡ c.source) × (chosen d ≡ c.old))
 
   -- the latest choice stands first
   pub data Rooted : List Choice → Type 0 where
@@ -132,7 +132,7 @@ module _ (O : Order) where
   -- ---- the start
 
   abbrev pub fresh_held : Held
-  fresh_held = record { seen = zero; accepted = zero; value = none }
+  fresh_held = record { seen = zero; accepted = zero; value = None }
 
   abbrev pub begun : (ℕ → Key → Held) → Core
   begun f = record { holds = f; grants = []; choices = []; acceptances = [] }
@@ -160,7 +160,7 @@ module _ (O : Order) (Quorum : List ℕ → Type 0) where
     pub single : (c d : Choice O) → In c s.choices → In d s.choices → c.by ≡ d.by → c.ballot ≡ d.ballot → c ≡ d
     -- an arrival makes one choice
     pub spent : (c d : Choice O) → In c s.choices → In d s.choices → c.arrival ≡ d.arrival → c ≡ d
-    pub asked : (w : Acceptance O) → In w s.acceptances → Some s.choices (λ c. (valve O c ≡ w.key) × (c.ballot ≡ w.ballot) × (chosen O c ≡ w.value))
+    pub asked : (w : Acceptance O) → In w s.acceptances → SomeOf s.choices (λ c. (valve O c ≡ w.key) × (c.ballot ≡ w.ballot) × (chosen O c ≡ w.value))
 
   later : {w : Acceptance O} {l : List (Acceptance O)} {a : ℕ} {k : Key} {b : Ballot} {v : Option Value} → AtStart O b v ⊎ AcceptedBy O l a k b v → AtStart O b v ⊎ AcceptedBy O (w ∷ l) a k b v
   later (inl z) = inl z
@@ -233,7 +233,7 @@ module _ (O : Order) (Quorum : List ℕ → Type 0) where
 
   -- ---- an acceptance
 
-  module _ (s : Core O) (i : Sound s) (new : ℕ → Key → Held O) (a : ℕ) (k : Key) (b : Ballot) (v : Option Value) (changed : Changed O s.holds new a k (accepted_held O b v)) (least : NotAbove O (s.holds a k).seen b) (from : Some s.choices (λ c. (valve O c ≡ k) × (c.ballot ≡ b) × (chosen O c ≡ v))) where
+  module _ (s : Core O) (i : Sound s) (new : ℕ → Key → Held O) (a : ℕ) (k : Key) (b : Ballot) (v : Option Value) (changed : Changed O s.holds new a k (accepted_held O b v)) (least : NotAbove O (s.holds a k).seen b) (from : SomeOf s.choices (λ c. (valve O c ≡ k) × (c.ballot ≡ b) × (chosen O c ≡ v))) where
     accept_held : (x : ℕ) (y : Key) → HeldOk O s.grants (acceptance O a k b v ∷ s.acceptances) x y (new x y)
     accept_held =
         changed.each (λ x y h. HeldOk O s.grants (acceptance O a k b v ∷ s.acceptances) x y h)

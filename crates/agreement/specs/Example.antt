@@ -3,7 +3,7 @@
 use Rattle.std.specs.Prelude.{◌≡◌, refl, Bool, true, false, cond, List, [], ◌∷◌, ℕ, eqb}
 use Rattle.std.proofs.Common.{sym, subst, arith}
 use mathlib.Core.List.Memᴰ
-use Rattle.std.proofs.Math.Option.{Option, none, some}
+use Rattle.std.specs.Prelude.{Option, None, Some}
 use Rattle.leaf_fields.specs.Fields.{same}
 use Rattle.messages.specs.declared.Ballot.{Ballot}
 use Rattle.messages.specs.Ballots.{ballot0}
@@ -95,13 +95,13 @@ free_blocks P client_there l e x m =
 
 -- what is known of each proposer
 pub record AtStart (P : Proposer) : Type 0 where
-  pub idle : (x : Option Pending) → In x P.places → x ≡ none
+  pub idle : (x : Option Pending) → In x P.places → x ≡ None
   pub one_set_lem : SameSet set P.accept_acceptors × SameSet set P.propose_acceptors
 
 at_start : AtStart (start 1000 set 4)
 unfolding start empty_places
 at_start = record {
-  idle = all_cons {P = λ x. x ≡ none} refl (all_cons {P = λ x. x ≡ none} refl (all_cons {P = λ x. x ≡ none} refl (λ x m. only m)));
+  idle = all_cons {P = λ x. x ≡ None} refl (all_cons {P = λ x. x ≡ None} refl (all_cons {P = λ x. x ≡ None} refl (λ x m. only m)));
   one_set_lem = (same_set, same_set);
 }
 
@@ -134,10 +134,10 @@ abbrev order : Request
 order = Request.Set valve position
 
 abbrev move : Request
-move = Request.Cas valve (some position) (some elsewhere)
+move = Request.Cas valve (Some position) (Some elsewhere)
 
 abbrev too_late : Request
-too_late = Request.Cas valve (some position) (some (44 ∷ []))
+too_late = Request.Cas valve (Some position) (Some (44 ∷ []))
 
 -- both proposers propose at ballot 1, and two acceptors promise it to proposer 1 and say no to proposer 2; the order is accepted and client 5 is told
 abbrev pub ordering : List Event
@@ -199,11 +199,11 @@ proposal p a b = record { from = p; to = a; message = Message.ProposeReq b valve
 
 -- acceptor a has promised ballot 1 to the other
 abbrev no_from : ℕ → Frame
-no_from a = record { from = a; to = 2; message = Message.ProposeRes ballot1 ballot0 none (Result.Err (Failure.ProposalRejected ballot1)) }
+no_from a = record { from = a; to = 2; message = Message.ProposeRes ballot1 ballot0 None (Result.Err (Failure.ProposalRejected ballot1)) }
 
 -- the accept round at ballot 3
 abbrev accept_to : ℕ → Frame
-accept_to a = record { from = 2; to = a; message = Message.AcceptReq ballot3 valve (some elsewhere) }
+accept_to a = record { from = 2; to = a; message = Message.AcceptReq ballot3 valve (Some elsewhere) }
 
 abbrev yes_from : ℕ → Frame
 yes_from a = record { from = a; to = 2; message = Message.AcceptRes ballot3 Result.Ok }
@@ -212,13 +212,13 @@ abbrev answer : ℕ → ℕ → ℕ → Reply → Frame
 answer p c id r = record { from = p; to = c; message = Message.ClientResponse id r }
 
 abbrev pub set_done : Frame
-set_done = answer 1 5 99 (Reply.Done (some position))
+set_done = answer 1 5 99 (Reply.Done (Some position))
 
 abbrev pub compare_done : Frame
-compare_done = answer 2 6 100 (Reply.Done (some elsewhere))
+compare_done = answer 2 6 100 (Reply.Done (Some elsewhere))
 
 abbrev pub compare_failed : Frame
-compare_failed = answer 2 7 101 (Reply.Failed (Failure.CasFailed (some elsewhere)))
+compare_failed = answer 2 7 101 (Reply.Failed (Failure.CasFailed (Some elsewhere)))
 
 -- client 6's request in its second try
 abbrev pub again : Pending
@@ -232,13 +232,13 @@ again = record {
   acks_from = [];
   nacks_from = [];
   promised = ballot0;
-  value = none;
+  value = None;
   received_at = 0;
   retried = true;
 }
 
 abbrev pub accepts : ℕ → Ballot → Value → Acceptance plant_order
-accepts a b v = acceptance plant_order a valve b (some v)
+accepts a b v = acceptance plant_order a valve b (Some v)
 
 -- all that is accepted, the latest first: two acceptors at each of three ballots
 abbrev pub all_accepted : List (Acceptance plant_order)
@@ -261,7 +261,7 @@ pub record Happened : Type 0 where
   -- a majority of noes to one of them
   pub rejected : In (no_from 11) plant.frames × In (no_from 12) plant.frames
   -- which has the same request at the next ballot then, marked retried, and proposes it
-  pub tried_again : after_retry.party 2 ≡ proposer (record { counter = 2; accept_acceptors = set; propose_acceptors = set; timeout = 1000; places = some again ∷ none ∷ none ∷ none ∷ [] })
+  pub tried_again : after_retry.party 2 ≡ proposer (record { counter = 2; accept_acceptors = set; propose_acceptors = set; timeout = 1000; places = Some again ∷ None ∷ None ∷ None ∷ [] })
   pub proposed_again : In (proposal 2 11 ballot2) after_retry.frames × In (proposal 2 11 ballot2) plant.frames
   -- it had one arrival until then
   pub arrived : after_retry.arrivals ≡ record { number = 1; client = 6; at = 2; id = 100; request = move } ∷ record { number = 0; client = 5; at = 1; id = 99; request = order } ∷ []
@@ -272,7 +272,7 @@ pub record Happened : Type 0 where
   pub accept_round : In (accept_to 11) plant.frames × In (accept_to 12) plant.frames × In (yes_from 11) plant.frames × In (yes_from 12) plant.frames
   pub compare_failed_told : In compare_failed plant.frames
   pub accepted : plant.acceptances ≡ all_accepted
-  pub by_two : MajorityAccepted set plant valve ballot1 (some position)
+  pub by_two : MajorityAccepted set plant valve ballot1 (Some position)
 
 pub happened : Happened
 unfolding at_rest parties after_order after_retry after_move plant play step delivered nth hear hearing tick ticking arriving acceptor_does proposer_does with_party to_entries sent_by accepted_from accepted_in Acceptor.receive work_on where_is first_from count same none_bad stored_in Proposing.receive Proposing.tick clock_back in_time late_ones rows_of start empty_places listed pending_at replace_at no_place take_place within_limits
@@ -297,7 +297,7 @@ happened = record {
   };
 }
 
-among : (n : ℕ) (w : Acceptance plant_order) → nth n all_accepted ≡ some w → In w plant.acceptances
+among : (n : ℕ) (w : Acceptance plant_order) → nth n all_accepted ≡ Some w → In w plant.acceptances
 among n w e = subst (In w) (sym happened.accepted) (nth_in n all_accepted w e)
 
 -- ---- what demand 3 says of it
@@ -306,25 +306,25 @@ pub demanded : Demand3 set plant
 demanded = demand3 set at_rest begins_so run
 
 -- every acceptance at ballot 1, which both proposers used, carries the value of the set
-pub agreed : (w : Acceptance plant_order) → In w plant.acceptances → w.key ≡ valve → w.ballot ≡ ballot1 → w.value ≡ some position
+pub agreed : (w : Acceptance plant_order) → In w plant.acceptances → w.key ≡ valve → w.ballot ≡ ballot1 → w.value ≡ Some position
 unfolding nth
 agreed w m k b = demanded.one_value w (accepts 12 ballot1 position) m (among 0 (accepts 12 ballot1 position) refl) k b
 
 -- what is accepted above it, by the compare that succeeds and by the one that fails, comes of that value
-pub comes : ComesOf plant valve ballot1 (some position) ballot2 (some elsewhere)
+pub comes : ComesOf plant valve ballot1 (Some position) ballot2 (Some elsewhere)
 unfolding nth
-comes = demanded.comes_of valve ballot1 (some position) happened.by_two (accepts 11 ballot2 elsewhere) (among 3 (accepts 11 ballot2 elsewhere) refl) refl refl
+comes = demanded.comes_of valve ballot1 (Some position) happened.by_two (accepts 11 ballot2 elsewhere) (among 3 (accepts 11 ballot2 elsewhere) refl) refl refl
 
-pub comes_later : ComesOf plant valve ballot1 (some position) ballot3 (some elsewhere)
+pub comes_later : ComesOf plant valve ballot1 (Some position) ballot3 (Some elsewhere)
 unfolding nth
-comes_later = demanded.comes_of valve ballot1 (some position) happened.by_two (accepts 11 ballot3 elsewhere) (among 5 (accepts 11 ballot3 elsewhere) refl) refl refl
+comes_later = demanded.comes_of valve ballot1 (Some position) happened.by_two (accepts 11 ballot3 elsewhere) (among 5 (accepts 11 ballot3 elsewhere) refl) refl refl
 
 -- what each client is told speaks of a majority
-pub set_spoken : Speaks set plant set_done 99 (some position) (Reply.Done (some position))
-set_spoken = demanded.speaks set_done happened.set_told 99 (some position) (Reply.Done (some position)) (success refl)
+pub set_spoken : Speaks set plant set_done 99 (Some position) (Reply.Done (Some position))
+set_spoken = demanded.speaks set_done happened.set_told 99 (Some position) (Reply.Done (Some position)) (success refl)
 
-pub compare_spoken : Speaks set plant compare_done 100 (some elsewhere) (Reply.Done (some elsewhere))
-compare_spoken = demanded.speaks compare_done happened.compare_told 100 (some elsewhere) (Reply.Done (some elsewhere)) (success refl)
+pub compare_spoken : Speaks set plant compare_done 100 (Some elsewhere) (Reply.Done (Some elsewhere))
+compare_spoken = demanded.speaks compare_done happened.compare_told 100 (Some elsewhere) (Reply.Done (Some elsewhere)) (success refl)
 
-pub compare_failed_spoken : Speaks set plant compare_failed 101 (some elsewhere) (Reply.Failed (Failure.CasFailed (some elsewhere)))
-compare_failed_spoken = demanded.speaks compare_failed happened.compare_failed_told 101 (some elsewhere) (Reply.Failed (Failure.CasFailed (some elsewhere))) (failed_compare refl)
+pub compare_failed_spoken : Speaks set plant compare_failed 101 (Some elsewhere) (Reply.Failed (Failure.CasFailed (Some elsewhere)))
+compare_failed_spoken = demanded.speaks compare_failed happened.compare_failed_told 101 (Some elsewhere) (Reply.Failed (Failure.CasFailed (Some elsewhere))) (failed_compare refl)

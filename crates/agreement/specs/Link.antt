@@ -2,14 +2,14 @@
 -- Assumes nothing.
 use Rattle.std.specs.Prelude.{◌≡◌, refl, ◌⊎◌, Bool, true, false, cond, List, ℕ, ◌≤◌, ◌<◌, eqb, length}
 use Rattle.std.proofs.Common.{sym, subst, inl, inr, eqb-true}
-use Rattle.std.proofs.Math.Option.{Option, some}
+use Rattle.std.specs.Prelude.{Option, Some}
 use Rattle.std.proofs.lemmas.Bool.{eqb-false}
 use Rattle.messages.specs.declared.Ballot.{Ballot}
 use Rattle.messages.specs.Message.{Key, Value, Failure, Result, Reply, Message}
 use Rattle.storage_block.specs.Block.{Register}
 use Rattle.acceptor.specs.Dependence.{register_for}
 use Rattle.proposer_rules.specs.State.{Phase, Propose, Accept, Pending, Proposer, key_of}
-use Rattle.agreement.specs.Members.{either, In, Some, some_in, Distinct}
+use Rattle.agreement.specs.Members.{either, In, SomeOf, some_in, Distinct}
 use Rattle.agreement.specs.Order.{plant_order, NotAbove, counter_of}
 use Rattle.agreement.specs.Majority.{SameSet, Majority}
 use Rattle.agreement.specs.Core.{made, Held, Grant, Choice, chosen, valve, Acceptance, Core, Accepted, AcceptedBy, AtStart, Backed, Sound, HeldOk, fresh_held}
@@ -44,7 +44,7 @@ core_of s h = record { holds = λ a. holds_of (s.party a); grants = h.grants; ch
 
 -- a proposer used a ballot for a request of a key
 abbrev pub UsedFor : List Use → ℕ → Ballot → Key → Type 0
-UsedFor us p b k = Some us (λ u. (u.by ≡ p) × (u.ballot ≡ b) × (key_of u.arrival.request ≡ k))
+UsedFor us p b k = SomeOf us (λ u. (u.by ≡ p) × (u.ballot ≡ b) × (key_of u.arrival.request ≡ k))
 
 -- no ballot above b was used for arrival n
 abbrev pub Latest : List Use → Ballot → ℕ → Type 0
@@ -62,10 +62,10 @@ module _ (fixed : List ℕ) where
   Means s h f (Message.SetAcceptAcceptors l) = ⊥
   Means s h f (Message.SetProposeAcceptors l) = ⊥
   Means s h f (Message.ProposeReq b k) = UsedFor h.uses f.from b k
-  Means s h f (Message.ProposeRes b a v Result.Ok) = Some h.grants (λ g. (g.who ≡ f.from) × (g.to ≡ f.to) × (g.ballot ≡ b) × (g.had ≡ a) × (g.value ≡ v))
+  Means s h f (Message.ProposeRes b a v Result.Ok) = SomeOf h.grants (λ g. (g.who ≡ f.from) × (g.to ≡ f.to) × (g.ballot ≡ b) × (g.had ≡ a) × (g.value ≡ v))
   Means s h f (Message.ProposeRes b a v (Result.Err e)) = Unit {0}
-  Means s h f (Message.AcceptReq b k v) = Some h.choices (λ c. (c.by ≡ f.from) × (c.ballot ≡ b) × (valve plant_order c ≡ k) × (chosen plant_order c ≡ v))
-  Means s h f (Message.AcceptRes b Result.Ok) = Some h.choices (λ c. (c.by ≡ f.to) × (c.ballot ≡ b) × AcceptedBy plant_order s.acceptances f.from (valve plant_order c) b (chosen plant_order c))
+  Means s h f (Message.AcceptReq b k v) = SomeOf h.choices (λ c. (c.by ≡ f.from) × (c.ballot ≡ b) × (valve plant_order c ≡ k) × (chosen plant_order c ≡ v))
+  Means s h f (Message.AcceptRes b Result.Ok) = SomeOf h.choices (λ c. (c.by ≡ f.to) × (c.ballot ≡ b) × AcceptedBy plant_order s.acceptances f.from (valve plant_order c) b (chosen plant_order c))
   Means s h f (Message.AcceptRes b (Result.Err e)) = Unit {0}
 
   -- a pending request in its first phase
@@ -76,7 +76,7 @@ module _ (fixed : List ℕ) where
 
   -- and in its second
   pub record Second (s : Plant) (h : Past) (p : ℕ) (q : Pending) : Type 0 where
-    pub chose : Some h.choices (λ c. (c.by ≡ p) × (c.ballot ≡ q.ballot) × (c.request ≡ q.req) × (c.old ≡ q.value))
+    pub chose : SomeOf h.choices (λ c. (c.by ≡ p) × (c.ballot ≡ q.ballot) × (c.request ≡ q.req) × (c.old ≡ q.value))
     pub agreed : (a : ℕ) → In a q.acks_from → AcceptedBy plant_order s.acceptances a (key_of q.req) q.ballot (made q.req q.value)
 
   abbrev pub Stage : Plant → Past → ℕ → Pending → Phase → Type 0
@@ -103,7 +103,7 @@ module _ (fixed : List ℕ) where
     -- "pending ballots are distinct and from 1 to the counter", and so are all that were ever used
     pub counted : (u : Use) → In u h.uses → u.by ≡ p → counter_of u.ballot ≤ P.counter
     pub apart : Apart P.places
-    pub pending : (q : Pending) → In (some q) P.places → PendingOk s h p q
+    pub pending : (q : Pending) → In (Some q) P.places → PendingOk s h p q
 
   -- the use that a choice was made for
   pub record ChoiceUse (h : Past) (c : Choice plant_order) : Type 0 where

@@ -18,7 +18,7 @@ In a l = Memᴰ a l
 
 -- ---- every member, some member, any two members
 
-pub record Some {A : Type 0} (l : List A) (P : A → Type 0) : Type 0 where
+pub record SomeOf {A : Type 0} (l : List A) (P : A → Type 0) : Type 0 where
   pub it : A
   pub at : In it l
   pub is : P it
@@ -26,13 +26,13 @@ pub record Some {A : Type 0} (l : List A) (P : A → Type 0) : Type 0 where
 pub all_cons : {A : Type 0} {P : A → Type 0} {x : A} {l : List A} → P x → ((a : A) → In a l → P a) → (a : A) → In a (x ∷ l) → P a
 all_cons {P = P} px rest a m = either (Memᴰ.cases_cons m) (λ e. subst P (sym e) px) (rest a)
 
-pub some_cons : {A : Type 0} {P : A → Type 0} {x : A} {l : List A} → Some l P → Some (x ∷ l) P
+pub some_cons : {A : Type 0} {P : A → Type 0} {x : A} {l : List A} → SomeOf l P → SomeOf (x ∷ l) P
 some_cons s = record { it = s.it; at = Memᴰ.tail s.at; is = s.is }
 
-pub some_head : {A : Type 0} {P : A → Type 0} {x : A} {l : List A} → P x → Some (x ∷ l) P
+pub some_head : {A : Type 0} {P : A → Type 0} {x : A} {l : List A} → P x → SomeOf (x ∷ l) P
 some_head {x = x} p = record { it = x; at = Memᴰ.head refl; is = p }
 
-pub some_in : {A : Type 0} {P : A → Type 0} {l m : List A} → ((a : A) → In a l → In a m) → Some l P → Some m P
+pub some_in : {A : Type 0} {P : A → Type 0} {l m : List A} → ((a : A) → In a l → In a m) → SomeOf l P → SomeOf m P
 some_in sub s = record { it = s.it; at = sub s.it s.at; is = s.is }
 
 pub pair_cons : {A : Type 0} {P : A → A → Type 0} {x : A} {l : List A} → P x x → ((a : A) → In a l → P x a) → ((a : A) → In a l → P a x) → ((a b : A) → In a l → In b l → P a b) → (a b : A) → In a (x ∷ l) → In b (x ∷ l) → P a b

@@ -3,7 +3,7 @@
 use Rattle.std.specs.Prelude.{◌≡◌, refl, ◌⊎◌, Bool, true, List, ◌∷◌, ◌++◌, ℕ, ◌+◌, ◌≤◌}
 use Rattle.std.proofs.Common.{sym, ◌∙◌, ap, subst, inl, inr, arith}
 use mathlib.Core.List.Memᴰ
-use Rattle.std.proofs.Math.Option.{Option, some}
+use Rattle.std.specs.Prelude.{Option, Some}
 use Rattle.messages.specs.declared.Address.{Address}
 use Rattle.messages.specs.Ballots.{above}
 use Rattle.messages.specs.Message.{Request, Message}
@@ -72,7 +72,7 @@ module _ (fixed : List ℕ) (s : Plant) (h : Past) (tie : Tied fixed s h) (p : �
   }
 
   abbrev chosen_state : Proposer
-  chosen_state = moved P P.counter (replace_at q.ballot (some (to_accept P q)) P.places)
+  chosen_state = moved P P.counter (replace_at q.ballot (Some (to_accept P q)) P.places)
 
   abbrev pub chosen_plant : Plant
   chosen_plant = record { party = after fixed s h tie p P here chosen_state; frames = sent_by p (to_each P.accept_acceptors (Message.AcceptReq q.ballot (key_of q.req) (made q.req q.value))) ++ s.frames; arrivals = s.arrivals; acceptances = s.acceptances }
@@ -107,8 +107,8 @@ module _ (fixed : List ℕ) (s : Plant) (h : Past) (tie : Tied fixed s h) (p : �
         accept_set = was.accept_set;
         propose_set = was.propose_set;
         counted = was.counted;
-        apart = apart_replaced q.ballot (some (to_accept P q)) P.places was.apart (λ x e y m ne d. ne (d ∙ ap (λ (z : Pending). z.ballot) (sym (some_same e))));
-        pending = λ y m. either (in_replaced q.ballot (some (to_accept P q)) P.places was.apart y m)
+        apart = apart_replaced q.ballot (Some (to_accept P q)) P.places was.apart (λ x e y m ne d. ne (d ∙ ap (λ (z : Pending). z.ballot) (sym (some_same e))));
+        pending = λ y m. either (in_replaced q.ballot (Some (to_accept P q)) P.places was.apart y m)
             (λ e. subst (PendingOk fixed chosen_plant chosen_past p) (some_same e) accepting)
             (λ r.
             let o = was.pending y r.0 in
@@ -153,7 +153,7 @@ module _ (fixed : List ℕ) (s : Plant) (h : Past) (tie : Tied fixed s h) (p : �
       let low = (its_ok fixed s h tie p P here).counted u m e in
       plant_order.irreflexive (next_ballot c) (subst (λ b. above (next_ballot c) b ≡ true) d (next_above u.ballot c (omega (arith, more))))
 
-  module _ (x : Arrival) (came : In x s.arrivals) (at : x.at ≡ p) (client : Address) (id : ℕ) (req : Request) (time : ℕ) (again : Bool) (its_client : x.client ≡ client.0) (its_id : x.id ≡ id) (its_request : x.request ≡ req) (places : List (Option Pending)) (apart : Apart places) (member : (y : Pending) → In (some y) places → (y ≡ asked P c client id req time again) ⊎ (In (some y) P.places × ((o : PendingOk fixed s h p y) → o.its.arrival.number ≡ x.number → ⊥))) (unspent : (d : Choice plant_order) → In d h.choices → d.arrival ≡ x.number → ⊥) where
+  module _ (x : Arrival) (came : In x s.arrivals) (at : x.at ≡ p) (client : Address) (id : ℕ) (req : Request) (time : ℕ) (again : Bool) (its_client : x.client ≡ client.0) (its_id : x.id ≡ id) (its_request : x.request ≡ req) (places : List (Option Pending)) (apart : Apart places) (member : (y : Pending) → In (Some y) places → (y ≡ asked P c client id req time again) ⊎ (In (Some y) P.places × ((o : PendingOk fixed s h p y) → o.its.arrival.number ≡ x.number → ⊥))) (unspent : (d : Choice plant_order) → In d h.choices → d.arrival ≡ x.number → ⊥) where
     abbrev new_use : Use
     new_use = record { by = p; ballot = next_ballot c; arrival = x }
 

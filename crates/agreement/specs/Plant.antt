@@ -1,7 +1,7 @@
 -- A whole plant and its runs, made of the parties' own rules, and demand 3 of them in the client's words.
 -- Assumes nothing.
 use Rattle.std.specs.Prelude.{◌≡◌, true, cond, List, [], ◌∷◌, ◌++◌, ℕ, eqb, length}
-use Rattle.std.proofs.Math.Option.{Option, none}
+use Rattle.std.specs.Prelude.{Option, None}
 use Rattle.messages.specs.declared.Address.{Address}
 use Rattle.messages.specs.declared.Ballot.{Ballot}
 use Rattle.messages.specs.Ballots.{above}
@@ -162,7 +162,7 @@ module _ (fixed : List ℕ) where
     -- "fresh tables"
     pub fresh_tables : (a : ℕ) (l : List Slot) → s.party a ≡ acceptor l → (x : Slot) → In x l → x ≡ free
     -- "proposers that start with nothing pending"
-    pub nothing_pending : (p : ℕ) (P : Proposer) → s.party p ≡ proposer P → (x : Option Pending) → In x P.places → x ≡ none
+    pub nothing_pending : (p : ℕ) (P : Proposer) → s.party p ≡ proposer P → (x : Option Pending) → In x P.places → x ≡ None
     -- "one fixed acceptor set in every list": order and repeats are free
     pub one_set : (p : ℕ) (P : Proposer) → s.party p ≡ proposer P → SameSet fixed P.accept_acceptors × SameSet fixed P.propose_acceptors
     pub nothing_sent : s.frames ≡ []

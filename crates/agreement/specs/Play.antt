@@ -4,7 +4,7 @@ use Rattle.std.specs.Prelude.{◌≡◌, Bool, true, false, ℕ, eqb, length}
 use Rattle.std.proofs.Math.Path.{refl}
 use mathlib.Core.List.Memᴰ
 use mathlib.Core.List.{List, [], ◌∷◌}
-use Rattle.std.proofs.Math.Option.{Option, none, some}
+use Rattle.std.specs.Prelude.{Option, None, Some}
 use Rattle.messages.specs.Message.{Request, Message}
 use Rattle.agreement.specs.Members.{In}
 use Rattle.agreement.specs.Plant.{Frame, Plant, hear, tick, arriving, Run, delivers, requests, ticks}
@@ -13,19 +13,19 @@ use Rattle.agreement.specs.Places.{none_not_some}
 -- ---- the things of a list that has the latest first, numbered from 0 as they came
 
 abbrev pub pick : {A : Type 0} → Bool → A → Option A → Option A
-pick true x rest = some x
+pick true x rest = Some x
 pick false x rest = rest
 
 unfoldable pub nth : {A : Type 0} → ℕ → List A → Option A
-nth n [] = none
+nth n [] = None
 nth n (x ∷ l) = pick (eqb (length l) n) x (nth n l)
 
-pub nth_in : {A : Type 0} (n : ℕ) (l : List A) (a : A) → nth n l ≡ some a → In a l
+pub nth_in : {A : Type 0} (n : ℕ) (l : List A) (a : A) → nth n l ≡ Some a → In a l
 unfolding nth
 nth_in n [] a e = absurd (none_not_some e)
 nth_in n (x ∷ l) a e = go (eqb (length l) n) e (nth_in n l a)
   where
-    go : (b : Bool) → pick b x (nth n l) ≡ some a → (nth n l ≡ some a → In a l) → In a (x ∷ l)
+    go : (b : Bool) → pick b x (nth n l) ≡ Some a → (nth n l ≡ Some a → In a l) → In a (x ∷ l)
     go true q rest =
         let same : a ≡ x = cc in
         Memᴰ.head same
@@ -42,8 +42,8 @@ pub data Event : Type 0 where
   clock : ℕ → ℕ → Event
 
 unfoldable pub delivered : Plant → ℕ → Option Frame → Plant
-delivered s t none = s
-delivered s t (some f) = hear s f.from f.to t f.message
+delivered s t None = s
+delivered s t (Some f) = hear s f.from f.to t f.message
 
 unfoldable pub step : Plant → Event → Plant
 step s (deliver n t) = delivered s t (nth n s.frames)
@@ -60,8 +60,8 @@ module _ (fixed : List ℕ) (start : Plant) where
   step_run s r (deliver n t) = go (nth n s.frames) refl
     where
       go : (o : Option Frame) → nth n s.frames ≡ o → Run fixed start (delivered s t o)
-      go none e = r
-      go (some f) e = delivers r f (nth_in n s.frames f e) t
+      go None e = r
+      go (Some f) e = delivers r f (nth_in n s.frames f e) t
   step_run s r (request from at id q t) = requests r from at id q t
   step_run s r (clock at t) = ticks r at t
 

@@ -5,14 +5,14 @@ use Rattle.std.proofs.Common.{sym, ◌∙◌, subst, inl, inr, arith}
 use Rattle.std.proofs.Math.Path.{ap}
 use Rattle.std.proofs.lemmas.Bool.{false≢true}
 use mathlib.Core.List.Memᴰ
-use Rattle.std.proofs.Math.Option.{Option, none, some}
+use Rattle.std.specs.Prelude.{Option, None, Some}
 use Rattle.messages.specs.declared.Ballot.{Ballot}
 use Rattle.messages.specs.Ballots.{above}
 use Rattle.messages.specs.Message.{Key, Value, Request, Failure, Reply, Message}
 use Rattle.messages.specs.Answers.{Row}
 use Rattle.proposer_rules.specs.State.{Phase, Propose, Accept, Pending, Proposer, key_of, with_no, with_yes}
 use Rattle.proposer_rules.specs.Rules.{reached, same_value, applied, reply_of, replace_at, to_each, all_timeouts, moved, promised_by}
-use Rattle.agreement.specs.Members.{either, In, Some, all_cons, all_append, Distinct, none_yet, one_more, distinct_append}
+use Rattle.agreement.specs.Members.{either, In, SomeOf, all_cons, all_append, Distinct, none_yet, one_more, distinct_append}
 use Rattle.agreement.specs.Order.{plant_order, NotAbove, itself, below_not_above, not_above_trans}
 use Rattle.agreement.specs.Majority.{SameSet, Majority, same_majority, reached_majority}
 use Rattle.agreement.specs.Core.{made, chosen, valve, AcceptedBy, AtStart, Accepted}
@@ -82,7 +82,7 @@ module _ (fixed : List ℕ) (s : Plant) (h : Past) (tie : Tied fixed s h) (p : �
       new
 
   -- one request becomes another at its ballot, or is dropped, and the counter is not lower
-  pub replaced_ok : (c : ℕ) (b : Ballot) (o : Option Pending) → P.counter ≤ c → ((q : Pending) → o ≡ some q → PendingOk fixed s h p q) → ((q : Pending) → o ≡ some q → q.ballot ≡ b) → ProposerOk fixed s h p (moved P c (replace_at b o P.places))
+  pub replaced_ok : (c : ℕ) (b : Ballot) (o : Option Pending) → P.counter ≤ c → ((q : Pending) → o ≡ Some q → PendingOk fixed s h p q) → ((q : Pending) → o ≡ Some q → q.ballot ≡ b) → ProposerOk fixed s h p (moved P c (replace_at b o P.places))
   replaced_ok c b o more new at = record {
     accept_set = its_ok.accept_set;
     propose_set = its_ok.propose_set;
@@ -91,11 +91,11 @@ module _ (fixed : List ℕ) (s : Plant) (h : Past) (tie : Tied fixed s h) (p : �
     pending = λ x m. either (in_replaced b o P.places its_ok.apart x m) (new x) (λ r. its_ok.pending x r.0);
   }
 
-  pub dropped_ok : (c : ℕ) (b : Ballot) → P.counter ≤ c → ProposerOk fixed s h p (moved P c (replace_at b none P.places))
-  dropped_ok c b more = replaced_ok c b none more (λ q e. absurd (none_not_some e)) (λ q e. absurd (none_not_some e))
+  pub dropped_ok : (c : ℕ) (b : Ballot) → P.counter ≤ c → ProposerOk fixed s h p (moved P c (replace_at b None P.places))
+  dropped_ok c b more = replaced_ok c b None more (λ q e. absurd (none_not_some e)) (λ q e. absurd (none_not_some e))
 
-  pub noted_ok : (c : ℕ) (q : Pending) → P.counter ≤ c → PendingOk fixed s h p q → ProposerOk fixed s h p (moved P c (replace_at q.ballot (some q) P.places))
-  noted_ok c q more ok = replaced_ok c q.ballot (some q) more (λ x e. subst (PendingOk fixed s h p) (some_same e) ok) (λ x e. ap (λ (y : Pending). y.ballot) (sym (some_same e)))
+  pub noted_ok : (c : ℕ) (q : Pending) → P.counter ≤ c → PendingOk fixed s h p q → ProposerOk fixed s h p (moved P c (replace_at q.ballot (Some q) P.places))
+  noted_ok c q more ok = replaced_ok c q.ballot (Some q) more (λ x e. subst (PendingOk fixed s h p) (some_same e) ok) (λ x e. ap (λ (y : Pending). y.ballot) (sym (some_same e)))
 
   -- ---- an answer to a request that waits for it
 
@@ -161,7 +161,7 @@ module _ (fixed : List ℕ) (s : Plant) (h : Past) (tie : Tied fixed s h) (p : �
 
   -- ---- a promise
 
-  module _ (from t : ℕ) (b a : Ballot) (v : Option Value) (q : Pending) (w : Waiting P (address from) t b Propose q) (g : Some h.grants (λ g. (g.who ≡ from) × (g.to ≡ p) × (g.ballot ≡ b) × (g.had ≡ a) × (g.value ≡ v))) where
+  module _ (from t : ℕ) (b a : Ballot) (v : Option Value) (q : Pending) (w : Waiting P (address from) t b Propose q) (g : SomeOf h.grants (λ g. (g.who ≡ from) × (g.to ≡ p) × (g.ballot ≡ b) × (g.had ≡ a) × (g.value ≡ v))) where
     asked_before : PendingOk fixed s h p q
     asked_before = was from t b Propose q w
 
@@ -185,7 +185,7 @@ module _ (fixed : List ℕ) (s : Plant) (h : Past) (tie : Tied fixed s h) (p : �
         inr (below, record { it = x.it; at = x.at; is = (x.is.1 ∙ grant_key, x.is.2 ∙ g.is.3, x.is.3 ∙ g.is.4) }))
 
     -- the new yes is backed, whatever promise from its own on the request keeps
-    new_backed : (x : Ballot) → NotAbove plant_order a x → Some h.grants (λ g. (g.who ≡ from) × (g.to ≡ p) × (g.key ≡ key_of q.req) × (g.ballot ≡ q.ballot) × NotAbove plant_order g.had x)
+    new_backed : (x : Ballot) → NotAbove plant_order a x → SomeOf h.grants (λ g. (g.who ≡ from) × (g.to ≡ p) × (g.key ≡ key_of q.req) × (g.ballot ≡ q.ballot) × NotAbove plant_order g.had x)
     new_backed x le = record { it = g.it; at = g.at; is = (g.is.0, g.is.1, grant_key, g.is.2 ∙ sym (its_ballot from t b Propose q w), rw g.is.3 le) }
 
     pub promised_ok : PendingOk fixed s h p (promised_by q (address from) a v)
@@ -194,7 +194,7 @@ module _ (fixed : List ℕ) (s : Plant) (h : Past) (tie : Tied fixed s h) (p : �
         go : (k : Bool) → above a q.promised ≡ k → PendingOk fixed s h p (cond k (with_yes q (address from) a v) (with_yes q (address from) q.promised q.value))
         go true e = yes_ok from t b Propose q w a v (record {
           unchosen = in_first_lem.unchosen;
-          backed = all_append {P = λ c. Some h.grants (λ g. (g.who ≡ c) × (g.to ≡ p) × (g.key ≡ key_of q.req) × (g.ballot ≡ q.ballot) × NotAbove plant_order g.had a)} q.acks_from
+          backed = all_append {P = λ c. SomeOf h.grants (λ g. (g.who ≡ c) × (g.to ≡ p) × (g.key ≡ key_of q.req) × (g.ballot ≡ q.ballot) × NotAbove plant_order g.had a)} q.acks_from
               (λ c m.
               let u = in_first_lem.backed c m in
               record { it = u.it; at = u.at; is = (u.is.0, u.is.1, u.is.2, u.is.3, not_above_trans plant_order {x = u.it.had} {y = q.promised} {z = a} u.is.4 (below_not_above plant_order {x = q.promised} {y = a} e)) })
@@ -203,13 +203,13 @@ module _ (fixed : List ℕ) (s : Plant) (h : Past) (tie : Tied fixed s h) (p : �
         })
         go false e = yes_ok from t b Propose q w q.promised q.value (record {
           unchosen = in_first_lem.unchosen;
-          backed = all_append {P = λ c. Some h.grants (λ g. (g.who ≡ c) × (g.to ≡ p) × (g.key ≡ key_of q.req) × (g.ballot ≡ q.ballot) × NotAbove plant_order g.had q.promised)} q.acks_from in_first_lem.backed (all_cons (new_backed q.promised (λ d. false≢true (sym e ∙ d))) (λ c m. absurd (Memᴰ.not-nil m)));
+          backed = all_append {P = λ c. SomeOf h.grants (λ g. (g.who ≡ c) × (g.to ≡ p) × (g.key ≡ key_of q.req) × (g.ballot ≡ q.ballot) × NotAbove plant_order g.had q.promised)} q.acks_from in_first_lem.backed (all_cons (new_backed q.promised (λ d. false≢true (sym e ∙ d))) (λ c m. absurd (Memᴰ.not-nil m)));
           origin = in_first_lem.origin;
         })
 
   -- ---- an acceptance
 
-  module _ (from t : ℕ) (b : Ballot) (q : Pending) (w : Waiting P (address from) t b Accept q) (x : Some h.choices (λ c. (c.by ≡ p) × (c.ballot ≡ b) × AcceptedBy plant_order s.acceptances from (valve plant_order c) b (chosen plant_order c))) where
+  module _ (from t : ℕ) (b : Ballot) (q : Pending) (w : Waiting P (address from) t b Accept q) (x : SomeOf h.choices (λ c. (c.by ≡ p) × (c.ballot ≡ b) × AcceptedBy plant_order s.acceptances from (valve plant_order c) b (chosen plant_order c))) where
     chosen_before : PendingOk fixed s h p q
     chosen_before = was from t b Accept q w
 

@@ -3,9 +3,9 @@
 use Rattle.std.specs.Prelude.{◌≡◌, refl, List, [], ◌∷◌, ℕ}
 use Rattle.std.proofs.Common.{sym, ◌∙◌, ap, subst₂}
 use mathlib.Core.List.Memᴰ
-use Rattle.std.proofs.Math.Option.{Option}
+use Rattle.std.specs.Prelude.{Option}
 use Rattle.messages.specs.Message.{Key, Value}
-use Rattle.agreement.specs.Members.{either, In, Some, all_cons, Distinct, none_yet, one_more}
+use Rattle.agreement.specs.Members.{either, In, SomeOf, all_cons, Distinct, none_yet, one_more}
 use Rattle.agreement.specs.Majority.{Common, Member}
 use Rattle.agreement.specs.Order.{Order, NotAbove, itself, below_not_above, then_below, not_above_trans, below_or_equal}
 use Rattle.agreement.specs.Core.{Core, Choice, chosen, valve, Acceptance, Accepted, AcceptedBy, Sound, Rooted, bare, grown, Parent}
@@ -76,7 +76,7 @@ module _ (O : Order) (Quorum : List ℕ → Type 0) where
     climbs {b = b} here = itself O b
     climbs (next ch c m ek lt eo ac) = below_not_above O (then_below O (climbs ch) lt)
 
-    links : {k : Key} {b : Ballot} {v : Option Value} {b₁ : Ballot} {v₁ : Option Value} {ns : List ℕ} → Chain s.choices s.acceptances k b v b₁ v₁ ns → (n : ℕ) → In n ns → Some s.choices (λ d. (d.arrival ≡ n) × Below b d.ballot × NotAbove O d.ballot b₁)
+    links : {k : Key} {b : Ballot} {v : Option Value} {b₁ : Ballot} {v₁ : Option Value} {ns : List ℕ} → Chain s.choices s.acceptances k b v b₁ v₁ ns → (n : ℕ) → In n ns → SomeOf s.choices (λ d. (d.arrival ≡ n) × Below b d.ballot × NotAbove O d.ballot b₁)
     links here = λ n m. absurd (Memᴰ.not-nil m)
     links (next ch c m ek lt eo ac) =
         all_cons

@@ -7,7 +7,7 @@ use Rattle.std.proofs.Math.Logic.{inl, inr}
 use Rattle.std.proofs.Math.Bool.{true, false}
 use mathlib.Core.List.Memᴰ
 use mathlib.Core.List.{List, [], ◌∷◌}
-use Rattle.std.proofs.Math.Option.{Option, some}
+use Rattle.std.specs.Prelude.{Option, Some}
 use Rattle.std.proofs.Math.Nat.{le-max_left}
 use Rattle.messages.specs.declared.Ballot.{Ballot}
 use Rattle.messages.specs.declared.answer.Refusal.{Refusal}
@@ -17,7 +17,7 @@ use Rattle.messages.specs.Refusals.{test, first_due}
 use Rattle.messages.specs.Answers.{nothing, refused}
 use Rattle.proposer_rules.specs.State.{Propose, Accept, Pending, Proposer, key_of, with_no, with_yes}
 use Rattle.proposer_rules.specs.Rules.{reached, next_ballot, raised, reply_of, applied, replace_at, take_place, Outcome, outcome, unless, to_each, all_timeouts, moved, asked, proposals, to_client, promised_by, to_accept, receive, clock_back, in_time, late_ones, rows_of, tick}
-use Rattle.agreement.specs.Members.{either, In, Some, all_cons}
+use Rattle.agreement.specs.Members.{either, In, SomeOf, all_cons}
 use Rattle.agreement.specs.Order.{plant_order}
 use Rattle.agreement.specs.Majority.{SameSet}
 use Rattle.agreement.specs.Core.{chosen, valve, AcceptedBy}
@@ -71,7 +71,7 @@ module _ (fixed : List ℕ) (s : Plant) (h : Past) (tie : Tied fixed s h) (from 
     pub unserved : (u : Use) → In u h.uses → u.arrival.number ≡ arrival.number → ⊥
 
   -- no pending request is at the ballot after counter c
-  none_at : (c : ℕ) → P.counter ≤ c → (y : Pending) → In (some y) P.places → y.ballot ≡ next_ballot c → ⊥
+  none_at : (c : ℕ) → P.counter ≤ c → (y : Pending) → In (Some y) P.places → y.ballot ≡ next_ballot c → ⊥
   none_at c more y m e =
       let o = ok.pending y m in
       unused fixed s h tie p P here c more o.its o.used o.by (o.ballot ∙ e)
@@ -90,7 +90,7 @@ module _ (fixed : List ℕ) (s : Plant) (h : Past) (tie : Tied fixed s h) (from 
 
   -- ---- a retry
 
-  retried : (b last : Ballot) (q : Pending) → Waiting P (address from) t b Propose q → Done (outcome (moved P (raised P.counter last + 1) (replace_at q.ballot (some (asked P (raised P.counter last) q.client q.id q.req q.received_at true)) P.places)) (proposals P (raised P.counter last) q.req))
+  retried : (b last : Ballot) (q : Pending) → Waiting P (address from) t b Propose q → Done (outcome (moved P (raised P.counter last + 1) (replace_at q.ballot (Some (asked P (raised P.counter last) q.client q.id q.req q.received_at true)) P.places)) (proposals P (raised P.counter last) q.req))
   unfolding proposer_does
   retried b last q w =
       let c = raised P.counter last in
@@ -101,9 +101,9 @@ module _ (fixed : List ℕ) (s : Plant) (h : Past) (tie : Tied fixed s h) (from 
       let a = tie.arrived o.its o.used in
       record {
         past = _;
-        tied = asked_tied fixed s h tie p P here c more o.its.arrival a.0 (a.1 ∙ o.by) q.client q.id q.req q.received_at true o.client o.id o.request (replace_at q.ballot (some again) P.places)
-            (apart_replaced q.ballot (some again) P.places ok.apart (λ x e y m ne d. none_at c more y m (d ∙ ap (λ (z : Pending). z.ballot) (sym (some_same e)))))
-            (λ y m. either (in_replaced q.ballot (some again) P.places ok.apart y m) (λ e. inl (sym (some_same e))) (λ r. inr (r.0, λ u e. r.1 (one_pending fixed s h tie p p q y o u e).1)))
+        tied = asked_tied fixed s h tie p P here c more o.its.arrival a.0 (a.1 ∙ o.by) q.client q.id q.req q.received_at true o.client o.id o.request (replace_at q.ballot (Some again) P.places)
+            (apart_replaced q.ballot (Some again) P.places ok.apart (λ x e y m ne d. none_at c more y m (d ∙ ap (λ (z : Pending). z.ballot) (sym (some_same e)))))
+            (λ y m. either (in_replaced q.ballot (Some again) P.places ok.apart y m) (λ e. inl (sym (some_same e))) (λ r. inr (r.0, λ u e. r.1 (one_pending fixed s h tie p p q y o u e).1)))
             (no_choice fixed s h tie p q o first);
       }
 
@@ -117,12 +117,12 @@ module _ (fixed : List ℕ) (s : Plant) (h : Past) (tie : Tied fixed s h) (from 
       go false = refl
 
   abbrev Granted : Ballot → Ballot → Option Value → Type 0
-  Granted b a v = Some h.grants (λ g. (g.who ≡ from) × (g.to ≡ p) × (g.ballot ≡ b) × (g.had ≡ a) × (g.value ≡ v))
+  Granted b a v = SomeOf h.grants (λ g. (g.who ≡ from) × (g.to ≡ p) × (g.ballot ≡ b) × (g.had ≡ a) × (g.value ≡ v))
 
   abbrev Agreed : Ballot → Type 0
-  Agreed b = Some h.choices (λ c. (c.by ≡ p) × (c.ballot ≡ b) × AcceptedBy plant_order s.acceptances from (valve plant_order c) b (chosen plant_order c))
+  Agreed b = SomeOf h.choices (λ c. (c.by ≡ p) × (c.ballot ≡ b) × AcceptedBy plant_order s.acceptances from (valve plant_order c) b (chosen plant_order c))
 
-  elected : (b a : Ballot) (v : Option Value) (q : Pending) (w : Waiting P (address from) t b Propose q) → Granted b a v → (n : Pending) → promised_by q (address from) a v ≡ n → reached n.acks_from n.waiting_for ≡ true → Done (outcome (moved P P.counter (replace_at n.ballot (some (to_accept P n)) P.places)) (to_each P.accept_acceptors (Message.AcceptReq n.ballot (key_of n.req) (applied n.req n.value).value)))
+  elected : (b a : Ballot) (v : Option Value) (q : Pending) (w : Waiting P (address from) t b Propose q) → Granted b a v → (n : Pending) → promised_by q (address from) a v ≡ n → reached n.acks_from n.waiting_for ≡ true → Done (outcome (moved P P.counter (replace_at n.ballot (Some (to_accept P n)) P.places)) (to_each P.accept_acceptors (Message.AcceptReq n.ballot (key_of n.req) (applied n.req n.value).value)))
   unfolding proposer_does
   elected b a v q w g n e enough =
       let good : PendingOk fixed s h p n = subst (PendingOk fixed s h p) e (promised_ok fixed s h tie p P here from t b a v q w g) in

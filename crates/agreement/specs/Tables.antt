@@ -5,7 +5,7 @@ use Rattle.std.proofs.Math.Path.{refl, sym, ap, subst}
 use Rattle.std.proofs.Common.{◌∙◌, zero-add, add-zero, arith, get_or-set_same, get_or-set_other}
 use Rattle.std.proofs.Math.Bool.{true, false, false≢true, cond}
 use mathlib.Core.List.Memᴰ
-use Rattle.std.proofs.Math.Option.{Option, none, some}
+use Rattle.std.specs.Prelude.{Option, None, Some}
 use Rattle.std.proofs.Math.Nat.{sub-zero}
 use Rattle.leaf_fields.specs.Fields.{same}
 use Rattle.leaf_fields.specs.Laws.{same-true, same_refl}
@@ -28,7 +28,7 @@ use Rattle.agreement.specs.Members.{In}
 
 -- ---- a fresh table
 
-none_held : (k : Key) (n : ℕ) (l : List Slot) → ((x : Slot) → In x l → x ≡ free) → first_from (holds k) n l ≡ none
+none_held : (k : Key) (n : ℕ) (l : List Slot) → ((x : Slot) → In x l → x ≡ free) → first_from (holds k) n l ≡ None
 unfolding first_from
 none_held k n [] h = refl
 none_held k n (x ∷ l) h =
@@ -39,11 +39,11 @@ pub fresh_register : (k : Key) (l : List Slot) → ((x : Slot) → In x l → x 
 unfolding where_is
 fresh_register k l h = go (ltb 1 (count (holds k) l)) (first_from (holds k) 0 l) (first_from is_free 0 l) (none_held k 0 l h)
   where
-    go : (c : Bool) (o f : Option ℕ) → o ≡ none → register_by k l (cond c Found.Twice (found_by o f)) ≡ fresh k
+    go : (c : Bool) (o f : Option ℕ) → o ≡ None → register_by k l (cond c Found.Twice (found_by o f)) ≡ fresh k
     go true o f e = refl
-    go false none none e = refl
-    go false none (some i) e = refl
-    go false (some i) f e = let z : ◌≡◌ {A = ℕ} 0 1 = cc in absurd (omega arith)
+    go false None None e = refl
+    go false None (Some i) e = refl
+    go false (Some i) f e = let z : ◌≡◌ {A = ℕ} 0 1 = cc in absurd (omega arith)
 
 -- ---- one slot set
 
@@ -52,7 +52,7 @@ first_kept : (p : Slot → Bool) (n : ℕ) (l : List Slot) (i : ℕ) (x : Slot) 
 unfolding first_from
 first_kept p n [] i x e = refl
 first_kept p n (s ∷ l) zero x e = rw e
-first_kept p n (s ∷ l) (suc i) x e = ap (λ (o : Option ℕ). cond (p s) (some n) o) (first_kept p (suc n) l i x e)
+first_kept p n (s ∷ l) (suc i) x e = ap (λ (o : Option ℕ). cond (p s) (Some n) o) (first_kept p (suc n) l i x e)
 
 count_kept : (p : Slot → Bool) (l : List Slot) (i : ℕ) (x : Slot) → p x ≡ p (get_or l i free) → count p (set l i x) ≡ count p l
 unfolding count
@@ -61,24 +61,24 @@ count_kept p (s ∷ l) zero x e = rw e
 count_kept p (s ∷ l) (suc i) x e = ap (λ (c : ℕ). cond (p s) (suc c) c) (count_kept p l i x e)
 
 -- the one slot of its kind is found, and counted once
-new_found : (p : Slot → Bool) (n : ℕ) (l : List Slot) (i : ℕ) (x : Slot) → count p l ≡ 0 → p x ≡ true → i < length l → (first_from p n (set l i x) ≡ some (n + i)) × (count p (set l i x) ≡ 1)
+new_found : (p : Slot → Bool) (n : ℕ) (l : List Slot) (i : ℕ) (x : Slot) → count p l ≡ 0 → p x ≡ true → i < length l → (first_from p n (set l i x) ≡ Some (n + i)) × (count p (set l i x) ≡ 1)
 unfolding first_from count
 new_found p n [] i x c e h = absurd (omega arith)
 new_found p n (s ∷ l) zero x c e h = go (p s) refl
   where
-    go : (b : Bool) → p s ≡ b → (cond (p x) (some n) (first_from p (suc n) l) ≡ some (n + 0)) × (cond (p x) (suc (count p l)) (count p l) ≡ 1)
+    go : (b : Bool) → p s ≡ b → (cond (p x) (Some n) (first_from p (suc n) l) ≡ Some (n + 0)) × (cond (p x) (suc (count p l)) (count p l) ≡ 1)
     go true ps = let z : suc (count p l) ≡ 0 = rw ps at c in absurd (omega arith)
     go false ps =
         let rest : count p l ≡ 0 = rw ps at c in
         (rw (e, add-zero), rw (e, rest))
 new_found p n (s ∷ l) (suc i) x c e h = go (p s) refl (λ rest. new_found p (suc n) l i x rest e (omega arith))
   where
-    go : (b : Bool) → p s ≡ b → (count p l ≡ 0 → (first_from p (suc n) (set l i x) ≡ some (suc n + i)) × (count p (set l i x) ≡ 1)) → (cond (p s) (some n) (first_from p (suc n) (set l i x)) ≡ some (n + suc i)) × (cond (p s) (suc (count p (set l i x))) (count p (set l i x)) ≡ 1)
+    go : (b : Bool) → p s ≡ b → (count p l ≡ 0 → (first_from p (suc n) (set l i x) ≡ Some (suc n + i)) × (count p (set l i x) ≡ 1)) → (cond (p s) (Some n) (first_from p (suc n) (set l i x)) ≡ Some (n + suc i)) × (cond (p s) (suc (count p (set l i x))) (count p (set l i x)) ≡ 1)
     go true ps later = let z : suc (count p l) ≡ 0 = rw ps at c in absurd (omega arith)
     go false ps later =
         let r = later (rw ps at c) in
         let behind : suc n + i ≡ n + suc i = omega arith in
-        (rw ps (r.0 ∙ ap (λ (k : ℕ). some k) behind), rw ps r.1)
+        (rw ps (r.0 ∙ ap (λ (k : ℕ). Some k) behind), rw ps r.1)
 
 -- ---- after a store
 
@@ -90,24 +90,24 @@ not_same a b ne = go (same a b) refl
     go false e = refl
 
 module _ (k : Key) (l : List Slot) (i : ℕ) where
-  found_known : where_is k l ≡ Found.At i → (ltb 1 (count (holds k) l) ≡ false) × (first_from (holds k) 0 l ≡ some i)
+  found_known : where_is k l ≡ Found.At i → (ltb 1 (count (holds k) l) ≡ false) × (first_from (holds k) 0 l ≡ Some i)
   unfolding where_is
   found_known e = go (ltb 1 (count (holds k) l)) (first_from (holds k) 0 l) (first_from is_free 0 l) e
     where
-      go : (c : Bool) (o f : Option ℕ) → cond c Found.Twice (found_by o f) ≡ Found.At i → (c ≡ false) × (o ≡ some i)
+      go : (c : Bool) (o f : Option ℕ) → cond c Found.Twice (found_by o f) ≡ Found.At i → (c ≡ false) × (o ≡ Some i)
       go true o f e = (cc, cc)
-      go false none none e = (refl, cc)
-      go false none (some j) e = (refl, cc)
-      go false (some j) f e = (refl, cc)
+      go false None None e = (refl, cc)
+      go false None (Some j) e = (refl, cc)
+      go false (Some j) f e = (refl, cc)
 
   found_new : where_is k l ≡ Found.Free i → count (holds k) l ≡ 0
   unfolding where_is
   found_new e = count-none (holds k) 0 l (go (ltb 1 (count (holds k) l)) (first_from (holds k) 0 l) (first_from is_free 0 l) e)
     where
-      go : (c : Bool) (o f : Option ℕ) → cond c Found.Twice (found_by o f) ≡ Found.Free i → o ≡ none
+      go : (c : Bool) (o f : Option ℕ) → cond c Found.Twice (found_by o f) ≡ Found.Free i → o ≡ None
       go true o f e = cc
-      go false none f e = refl
-      go false (some j) f e = cc
+      go false None f e = refl
+      go false (Some j) f e = cc
 
   module _ (r : Register) (its-key : r.key ≡ k) (takes : Takes k l i) where
     has_key : holds k (used r) ≡ true
@@ -124,7 +124,7 @@ module _ (k : Key) (l : List Slot) (i : ℕ) where
     unfolding where_is
     there = go takes
       where
-        at_place : (c : Bool) (o f : Option ℕ) → c ≡ false → o ≡ some i → cond c Found.Twice (found_by o f) ≡ Found.At i
+        at_place : (c : Bool) (o f : Option ℕ) → c ≡ false → o ≡ Some i → cond c Found.Twice (found_by o f) ≡ Found.At i
         at_place c o f ec eo = rw (ec, eo)
 
         go : Takes k l i → cond (ltb 1 (count (holds k) (set l i (used r)))) Found.Twice (found_by (first_from (holds k) 0 (set l i (used r))) (first_from is_free 0 (set l i (used r)))) ≡ Found.At i
@@ -134,7 +134,7 @@ module _ (k : Key) (l : List Slot) (i : ℕ) where
             at_place _ _ _ (ap (λ (c : ℕ). ltb 1 c) (count_kept (holds k) l i (used r) held) ∙ f.0) (first_kept (holds k) 0 l i (used r) held ∙ f.1)
         go (new e) =
             let f = new_found (holds k) 0 l i (used r) (found_new e) has_key inside in
-            at_place _ _ _ (ap (λ (c : ℕ). ltb 1 c) f.1) (f.0 ∙ ap (λ (c : ℕ). some c) (zero-add i))
+            at_place _ _ _ (ap (λ (c : ℕ). ltb 1 c) f.1) (f.0 ∙ ap (λ (c : ℕ). Some c) (zero-add i))
 
     -- its key has the stored register
     pub register_stored : register_for k (set l i (used r)) ≡ r
@@ -161,28 +161,28 @@ module _ (k : Key) (l : List Slot) (i : ℕ) where
           rw (count_kept (holds other) l i (used r) held, first_kept (holds other) 0 l i (used r) held)
           (go (ltb 1 (count (holds other) l)) (first_from (holds other) 0 l) (first_from is_free 0 (set l i (used r))) (first_from is_free 0 l) refl)
         where
-          elsewhere : (j : ℕ) → first_from (holds other) 0 l ≡ some j → j ≡ i → ⊥
+          elsewhere : (j : ℕ) → first_from (holds other) 0 l ≡ Some j → j ≡ i → ⊥
           elsewhere j e same_place =
               let h = (first_in_lem (holds other) 0 l j e).2 in
               false≢true (sym not_there ∙ ap (λ (n : ℕ). holds other (get_or l n free)) (sym same_place) ∙ rw (sub-zero j) at h)
 
           go : (c : Bool) (o f g : Option ℕ) → first_from (holds other) 0 l ≡ o → register_by other (set l i (used r)) (cond c Found.Twice (found_by o f)) ≡ register_by other l (cond c Found.Twice (found_by o g))
           go true o f g e = refl
-          go false none none none e = refl
-          go false none none (some y) e = refl
-          go false none (some x) none e = refl
-          go false none (some x) (some y) e = refl
-          go false (some j) f g e = ap (register_in other) (get_or-set_other l i j (used r) free (elsewhere j e))
+          go false None None None e = refl
+          go false None None (Some y) e = refl
+          go false None (Some x) None e = refl
+          go false None (Some x) (Some y) e = refl
+          go false (Some j) f g e = ap (register_in other) (get_or-set_other l i j (used r) free (elsewhere j e))
 
 -- ---- the outcomes of a message
 
 data AcceptorDoes (l : List Slot) (from : Address) (m : Message) : Outcome → Type 0 where
   refuses : (r : Refusal) → AcceptorDoes l from m (outcome keep (refused r))
-  answers : (j : Job) → job_of m ≡ some j → (work_on l j).stores ≡ false → AcceptorDoes l from m (outcome keep (one from (work_on l j).answer))
-  stores : (j : Job) (i : ℕ) → job_of m ≡ some j → Takes j.key l i → (work_on l j).stores ≡ true → AcceptorDoes l from m (outcome (put i (work_on l j).next) (one from (work_on l j).answer))
+  answers : (j : Job) → job_of m ≡ Some j → (work_on l j).stores ≡ false → AcceptorDoes l from m (outcome keep (one from (work_on l j).answer))
+  stores : (j : Job) (i : ℕ) → job_of m ≡ Some j → Takes j.key l i → (work_on l j).stores ≡ true → AcceptorDoes l from m (outcome (put i (work_on l j).next) (one from (work_on l j).answer))
 
 module _ (l : List Slot) (from : Address) (m : Message) where
-  by_place : (j : Job) → job_of m ≡ some j → (f : Found) (s : Bool) → where_is j.key l ≡ f → (work_on l j).stores ≡ s → AcceptorDoes l from m (unless (first_due (test (is_twice f) Refusal.Damaged ∷ test (is_full f && s) Refusal.NoRoom ∷ [])) (outcome (cond s (put_at f (work_on l j).next) keep) (one from (work_on l j).answer)))
+  by_place : (j : Job) → job_of m ≡ Some j → (f : Found) (s : Bool) → where_is j.key l ≡ f → (work_on l j).stores ≡ s → AcceptorDoes l from m (unless (first_due (test (is_twice f) Refusal.Damaged ∷ test (is_full f && s) Refusal.NoRoom ∷ [])) (outcome (cond s (put_at f (work_on l j).next) keep) (one from (work_on l j).answer)))
   by_place j jm (Found.At i) true ef es = stores j i jm (known ef) es
   by_place j jm (Found.Free i) true ef es = stores j i jm (new ef) es
   by_place j jm Found.Full true ef es = refuses Refusal.NoRoom
@@ -193,13 +193,13 @@ module _ (l : List Slot) (from : Address) (m : Message) where
 
   by_tests : (b : Bool) (o : Option Job) (f : Bool) → job_of m ≡ o → AcceptorDoes l from m (unless (first_due (test (not b || key_twice l o) Refusal.Damaged ∷ test (foreign o) Refusal.WrongKind ∷ test (not f) Refusal.OverLimit ∷ test (no_block l o) Refusal.NoRoom ∷ [])) (perform l from o))
   by_tests false o f eo = refuses Refusal.Damaged
-  by_tests true none f eo = refuses Refusal.WrongKind
-  by_tests true (some j) false eo = over (is_twice (where_is j.key l))
+  by_tests true None f eo = refuses Refusal.WrongKind
+  by_tests true (Some j) false eo = over (is_twice (where_is j.key l))
     where
-      over : (d : Bool) → AcceptorDoes l from m (unless (first_due (test d Refusal.Damaged ∷ test true Refusal.OverLimit ∷ test (no_block l (some j)) Refusal.NoRoom ∷ [])) (perform l from (some j)))
+      over : (d : Bool) → AcceptorDoes l from m (unless (first_due (test d Refusal.Damaged ∷ test true Refusal.OverLimit ∷ test (no_block l (Some j)) Refusal.NoRoom ∷ [])) (perform l from (Some j)))
       over true = refuses Refusal.Damaged
       over false = refuses Refusal.OverLimit
-  by_tests true (some j) true eo = by_place j eo (where_is j.key l) (work_on l j).stores refl refl
+  by_tests true (Some j) true eo = by_place j eo (where_is j.key l) (work_on l j).stores refl refl
 
   acceptor_does_lem : AcceptorDoes l from m (receive l from m)
   unfolding receive
@@ -227,7 +227,7 @@ module _ (l : List Slot) (from : Address) (b : Ballot) (k : Key) where
   promised_by_lem true eh e i takes = promises i takes eh
   promised_by_lem false eh e i takes = absurd (false≢true e)
 
-  its_proposal : (j : Job) → job_of (Message.ProposeReq b k) ≡ some j → proposal b k ≡ j
+  its_proposal : (j : Job) → job_of (Message.ProposeReq b k) ≡ Some j → proposal b k ≡ j
   its_proposal j e = cc
 
   proposal_cases : (o : Outcome) → AcceptorDoes l from (Message.ProposeReq b k) o → ProposalDoes o
@@ -256,7 +256,7 @@ module _ (l : List Slot) (from : Address) (b : Ballot) (k : Key) where
     accepted_by true eh e i takes = accepts i takes eh
     accepted_by false eh e i takes = absurd (false≢true e)
 
-    its_acceptance : (j : Job) → job_of (Message.AcceptReq b k v) ≡ some j → acceptance b k v ≡ j
+    its_acceptance : (j : Job) → job_of (Message.AcceptReq b k v) ≡ Some j → acceptance b k v ≡ j
     its_acceptance j e = cc
 
     accept_cases : (o : Outcome) → AcceptorDoes l from (Message.AcceptReq b k v) o → AcceptDoes o
@@ -273,7 +273,7 @@ pub record Refuses (o : Outcome) : Type 0 where
   pub refusal : Refusal
   pub is : o ≡ outcome keep (refused refusal)
 
-pub others_refused : (l : List Slot) (from : Address) (m : Message) → job_of m ≡ none → Refuses (receive l from m)
+pub others_refused : (l : List Slot) (from : Address) (m : Message) → job_of m ≡ None → Refuses (receive l from m)
 others_refused l from m foreign-kind = go (receive l from m) (acceptor_does_lem l from m)
   where
     go : (o : Outcome) → AcceptorDoes l from m o → Refuses o

@@ -1,7 +1,7 @@
 -- The rows A1 to A6, B1 and B2 of 01's bench table, computed from the definitions that the contracts cite.
 -- Assumes nothing.
 use Rattle.std.specs.Prelude.{◌≡◌, refl, List, [], ◌∷◌, ℕ, replicate}
-use Rattle.std.proofs.Math.Option.{Option, none, some}
+use Rattle.std.specs.Prelude.{Option, None, Some}
 use Rattle.leaf_fields.specs.Fields.{from_le, to_le, all_zero, same, padded}
 use Rattle.leaf_sums.specs.Sums.{plain_sum, placed_sum}
 use Rattle.messages.specs.declared.Address.{Address}
@@ -36,7 +36,7 @@ abbrev pub valve : Key
 valve = 86 ∷ 49 ∷ []
 
 abbrev pub position : Option Value
-position = some (5 ∷ [])
+position = Some (5 ∷ [])
 
 -- what a message does on a table
 abbrev pub on : List ℕ → Message → Outcome
@@ -60,23 +60,23 @@ refused_by last = Result.Err (Failure.AcceptRejected (b last))
 
 pub record AcceptorRows : Type 0 where
   -- fresh, propose 1: Ok, accepted 0, none
-  pub A1 : on fresh_table (Message.ProposeReq (b 1) valve) ≡ outcome (put 0 (register valve (b 1) (b 0) none)) (one proposer (promise 1 0 none Result.Ok))
+  pub A1 : on fresh_table (Message.ProposeReq (b 1) valve) ≡ outcome (put 0 (register valve (b 1) (b 0) None)) (one proposer (promise 1 0 None Result.Ok))
   -- again: rejected, last 1
-  pub A2 : on (after fresh_table (Message.ProposeReq (b 1) valve)) (Message.ProposeReq (b 1) valve) ≡ outcome keep (one proposer (promise 1 0 none (rejected_by 1)))
+  pub A2 : on (after fresh_table (Message.ProposeReq (b 1) valve)) (Message.ProposeReq (b 1) valve) ≡ outcome keep (one proposer (promise 1 0 None (rejected_by 1)))
   -- accept 1 after A1: Ok
   pub A3 : on (after fresh_table (Message.ProposeReq (b 1) valve)) (Message.AcceptReq (b 1) valve position) ≡ outcome (put 0 (register valve (b 1) (b 1) position)) (one proposer (Message.AcceptRes (b 1) Result.Ok))
   -- fresh, propose 0: rejected, last 0, no block taken
-  pub A4 : on fresh_table (Message.ProposeReq (b 0) valve) ≡ outcome keep (one proposer (promise 0 0 none (rejected_by 0)))
+  pub A4 : on fresh_table (Message.ProposeReq (b 0) valve) ≡ outcome keep (one proposer (promise 0 0 None (rejected_by 0)))
   -- fresh, accept 0: Ok, block taken
   pub A5 : on fresh_table (Message.AcceptReq (b 0) valve position) ≡ outcome (put 0 (register valve (b 0) (b 0) position)) (one proposer (Message.AcceptRes (b 0) Result.Ok))
   -- seen 3, accept 2: rejected, last 3
   pub A6 : on (after fresh_table (Message.ProposeReq (b 3) valve)) (Message.AcceptReq (b 2) valve position) ≡ outcome keep (one proposer (Message.AcceptRes (b 2) (refused_by 3)))
   -- block with empty key, seen 1, accepted 0, none: sums 2 and 10
-  pub B1_plain : plain_sum (body (register [] (b 1) (b 0) none)) ≡ 2
-  pub B1_placed : placed_sum 0 (body (register [] (b 1) (b 0) none)) ≡ 10
+  pub B1_plain : plain_sum (body (register [] (b 1) (b 0) None)) ≡ 2
+  pub B1_placed : placed_sum 0 (body (register [] (b 1) (b 0) None)) ≡ 10
   -- same with one-byte key 01: sums 4 and 37
-  pub B2_plain : plain_sum (body (register (1 ∷ []) (b 1) (b 0) none)) ≡ 4
-  pub B2_placed : placed_sum 0 (body (register (1 ∷ []) (b 1) (b 0) none)) ≡ 37
+  pub B2_plain : plain_sum (body (register (1 ∷ []) (b 1) (b 0) None)) ≡ 4
+  pub B2_placed : placed_sum 0 (body (register (1 ∷ []) (b 1) (b 0) None)) ≡ 37
 
 pub acceptor_rows : AcceptorRows
 unfolding fresh_table area outcome_on receive work_on where_is first_from count same none_bad slots slots_from with_block block_at is_sized slot_of state_of good sums_good rest_zero head_good register_of image sealed body padded front within_limits list_fits none_zero plain_sum placed_sum all_zero to_le from_le

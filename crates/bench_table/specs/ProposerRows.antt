@@ -1,7 +1,7 @@
 -- The rows P1 to P4 of 01's bench table, computed from the proposer's rules.
 -- Assumes nothing.
 use Rattle.std.specs.Prelude.{◌≡◌, refl, List, [], ◌∷◌, ℕ}
-use Rattle.std.proofs.Math.Option.{Option, none, some}
+use Rattle.std.specs.Prelude.{Option, None, Some}
 use Rattle.messages.specs.declared.Address.{Address}
 use Rattle.messages.specs.declared.Ballot.{Ballot}
 use Rattle.messages.specs.declared.answer.Refusal.{Refusal}
@@ -39,7 +39,7 @@ abbrev pub answered : Proposer → ℕ → Message → Outcome
 answered s from m = receive s (address from) 0 m
 
 abbrev pub no : ℕ → ℕ → Message
-no ballot last = Message.ProposeRes (b ballot) (b 0) none (Result.Err (Failure.ProposalRejected (b last)))
+no ballot last = Message.ProposeRes (b ballot) (b 0) None (Result.Err (Failure.ProposalRejected (b last)))
 
 abbrev pub promise : ℕ → ℕ → Option Value → Message
 promise ballot accepted v = Message.ProposeRes (b ballot) (b accepted) v Result.Ok
@@ -60,16 +60,16 @@ retried_no = (answered (answered one_no 2 (no 1 7)).state 1 (no 10 12)).state
 
 -- P3: a compare whose old value is 05, at ballot 5, and a promise that carries the value 06 of ballot 3
 abbrev pub five : Option Value
-five = some (5 ∷ [])
+five = Some (5 ∷ [])
 
 abbrev pub six : Option Value
-six = some (6 ∷ [])
+six = Some (6 ∷ [])
 
 abbrev pub one_promise : Proposer
-one_promise = (answered (asking (moved fresh 4 fresh.places) (Request.Cas valve five none)).state 1 (promise 5 3 six)).state
+one_promise = (answered (asking (moved fresh 4 fresh.places) (Request.Cas valve five None)).state 1 (promise 5 3 six)).state
 
 abbrev pub accepting : Proposer
-accepting = (answered one_promise 2 (promise 5 0 none)).state
+accepting = (answered one_promise 2 (promise 5 0 None)).state
 
 -- P4: one request that arrived at 100
 abbrev pub waiting : Proposer
@@ -83,7 +83,7 @@ pub record ProposerRows : Type 0 where
   -- the retry refused with 12, then 11: client told 11
   pub P2 : (answered retried_no 2 (no 10 11)).told ≡ told_client (Reply.Failed (Failure.ProposalRejected (b 11)))
   -- `Cas` whose old differs: the accept carries the promised value; `CasFailed` only after two yeses
-  pub P3_accepts : (answered one_promise 2 (promise 5 0 none)).told ≡ each acceptors (Message.AcceptReq (b 5) valve six)
+  pub P3_accepts : (answered one_promise 2 (promise 5 0 None)).told ≡ each acceptors (Message.AcceptReq (b 5) valve six)
   pub P3_one_yes : (answered accepting 3 (yes 5)).told ≡ nothing
   pub P3_two_yeses : (answered (answered accepting 3 (yes 5)).state 1 (yes 5)).told ≡ told_client (Reply.Failed (Failure.CasFailed six))
   -- arrival 100, timeout 50: tick 150 nothing, 151 `Timeout`, 99 refusal 12

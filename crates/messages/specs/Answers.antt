@@ -1,7 +1,7 @@
 -- Answers as 01 has them: nothing, one message to one client or proposer, one message to each entry of a list, a row of timeouts, or a refusal. For each: the enum of the code that says it, what it puts into the answer area, and back.
 -- Assumes nothing.
 use Rattle.std.specs.Prelude.{List, [], ◌∷◌, ◌++◌, ℕ, zero, suc, ◌+◌, length, take}
-use Rattle.std.proofs.Math.Option.{Option, none, some}
+use Rattle.std.specs.Prelude.{Option, None, Some}
 use Rattle.std.proofs.lemmas.List.Edits.{sets}
 use Rattle.leaf_fields.specs.Fields.{from_le, to_le, part}
 use Rattle.messages.specs.declared.Address.{Address}
@@ -61,12 +61,12 @@ said (Answer.Refused r) a = refused r
 
 -- a value that is there, and its bytes
 abbrev pub marked : Option Value → OptionValue
-marked none = OptionValue.None
-marked (some v) = OptionValue.Some
+marked None = OptionValue.None
+marked (Some v) = OptionValue.Some
 
 abbrev pub bytes_of : Option Value → Value
-bytes_of none = []
-bytes_of (some v) = v
+bytes_of None = []
+bytes_of (Some v) = v
 
 -- ---- from 01's answer to the enum and the area
 

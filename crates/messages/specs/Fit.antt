@@ -1,7 +1,7 @@
 -- What is within the limits is short; a value that is given by its mark has that mark.
 -- Assumes nothing.
 use Rattle.std.specs.Prelude.{◌≡◌, refl, true, ◌≤◌, length}
-use Rattle.std.proofs.Math.Option.{Option, none, some}
+use Rattle.std.specs.Prelude.{Option, None, Some}
 use Rattle.std.proofs.Common.{arith, leb-true}
 use Rattle.leaf_fields.specs.Laws.{and_true}
 use Rattle.messages.specs.declared.OptionValue.{OptionValue}
@@ -13,8 +13,8 @@ pub short_key : (k : Key) → key_fits k ≡ true → length k ≤ key_most
 short_key k h = leb-true (length k) key_most h
 
 pub short_value : (o : Option Value) → option_fits o ≡ true → length (bytes_of o) ≤ value_most
-short_value none h = omega arith
-short_value (some v) h = leb-true (length v) value_most h
+short_value None h = omega arith
+short_value (Some v) h = leb-true (length v) value_most h
 
 pub register_key : (k : Key) (o : Option Value) → register_fits k o ≡ true → length k ≤ key_most
 register_key k o h = short_key k (and_true (key_fits k) (option_fits o) h).0

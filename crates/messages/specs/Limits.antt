@@ -1,7 +1,7 @@
 -- The limits of 01, each written once for the definitions, and what is within them: the opposite of refusal 4's line, "key, value or list too long, or address 0 (the sender's or one in a list)".
 -- Assumes nothing.
 use Rattle.std.specs.Prelude.{Bool, true, not, ◌&&◌, List, [], ◌∷◌, ℕ, leb, eqb, length}
-use Rattle.std.proofs.Math.Option.{Option, none, some}
+use Rattle.std.specs.Prelude.{Option, None, Some}
 use Rattle.messages.specs.declared.Address.{Address}
 use Rattle.messages.specs.Message.{Key, Value, Request, Failure, Result, Reply, Message}
 
@@ -27,8 +27,8 @@ abbrev pub value_fits : Value → Bool
 value_fits v = leb (length v) value_most
 
 abbrev pub option_fits : Option Value → Bool
-option_fits none = true
-option_fits (some v) = value_fits v
+option_fits None = true
+option_fits (Some v) = value_fits v
 
 abbrev pub failure_fits : Failure → Bool
 failure_fits (Failure.ProposalRejected b) = true

@@ -1,7 +1,7 @@
 -- The eight messages of the crate's `Rpc`, with their keys, values and lists; and which of them an enum of the code is, with the bytes that are lent beside it.
 -- Assumes nothing.
 use Rattle.std.specs.Prelude.{List, ℕ, get_or}
-use Rattle.std.proofs.Math.Option.{Option, none, some}
+use Rattle.std.specs.Prelude.{Option, None, Some}
 use Rattle.messages.specs.declared.Address.{Address}
 use Rattle.messages.specs.declared.Place.{Place}
 use Rattle.messages.specs.declared.Ballot.{Ballot}
@@ -55,8 +55,8 @@ pub data Message : Type 0 where
 
 -- a value that may be missing, and its bytes
 abbrev pub given : OptionValue → Value → Option Value
-given OptionValue.None v = none
-given OptionValue.Some v = some v
+given OptionValue.None v = None
+given OptionValue.Some v = Some v
 
 abbrev pub request_of : Req → Key → Value → Value → Request
 request_of Req.Get k v w = Request.Get k

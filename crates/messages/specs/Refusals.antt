@@ -1,7 +1,7 @@
 -- 01's refusals: their numbers, and the choice of one. A party's refusals stand in a row of tests in rank order, and the first that holds is given.
 -- Assumes nothing.
 use Rattle.std.specs.Prelude.{Bool, true, false, List, [], ◌∷◌, ℕ}
-use Rattle.std.proofs.Math.Option.{Option, none, some}
+use Rattle.std.specs.Prelude.{Option, None, Some}
 use Rattle.messages.specs.declared.answer.Refusal.{Refusal}
 
 abbrev pub number : Refusal → ℕ
@@ -27,10 +27,10 @@ abbrev pub test : Bool → Refusal → Test
 test d r = record { due = d; refusal = r }
 
 abbrev pub pick_first : Bool → Refusal → Option Refusal → Option Refusal
-pick_first true r rest = some r
+pick_first true r rest = Some r
 pick_first false r rest = rest
 
 -- the first that is due
 abbrev pub first_due : List Test → Option Refusal
-first_due [] = none
+first_due [] = None
 first_due (t ∷ ts) = pick_first t.due t.refusal (first_due ts)

@@ -5,7 +5,7 @@ use Rattle.std.proofs.Common.{ap, lit<}
 use Rattle.messages.specs.Limits.{pending_most, list_fits}
 use Rattle.proposer_rules.specs.Rules.{empty_places, start}
 use Rattle.proposer_place.specs.Area.{area_image, read_area, distinct, places_fit, ballots_of, may_be_lent, is_image}
-use Rattle.std.proofs.Math.Option.{none}
+use Rattle.std.specs.Prelude.{None}
 use Rattle.proposer_place.specs.AreaLaws.{ShortList, LawfulPlace, LawfulPlaces, LawfulState, read_written, image_is}
 
 -- "It starts with counter 0, nothing pending and one given list as both lists"
@@ -18,7 +18,7 @@ length_empty (suc n) = ap suc (length_empty n)
 lawful_empty : (n : ℕ) → LawfulPlaces (empty_places n)
 unfolding empty_places LawfulPlaces
 lawful_empty zero = λ i. tt
-lawful_empty (suc n) = λ i. elim i as (λ z. LawfulPlace (get_or (empty_places (suc n)) z none)) [ zero ↦ tt | suc j ↦ lawful_empty n j ]
+lawful_empty (suc n) = λ i. elim i as (λ z. LawfulPlace (get_or (empty_places (suc n)) z None)) [ zero ↦ tt | suc j ↦ lawful_empty n j ]
 
 pub lawful_start : (t : ℕ) (l : List ℕ) (n : ℕ) → t < 256 ^ 8 → ShortList l → LawfulState (start t l n) n
 unfolding start

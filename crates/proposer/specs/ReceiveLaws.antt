@@ -3,7 +3,7 @@
 use Rattle.std.specs.Prelude.{◌≡◌, Bool, true, false, cond, List, ℕ, length}
 use Rattle.std.proofs.Math.Path.{refl, sym}
 use Rattle.std.proofs.Common.{ap, ◌∙◌, eq-eqb, ne_eqb}
-use Rattle.std.proofs.Math.Option.{Option, none, some}
+use Rattle.std.specs.Prelude.{Option, None, Some}
 use Rattle.messages.specs.declared.Address.{Address}
 use Rattle.messages.specs.declared.answer.Answer.{Answer}
 use Rattle.messages.specs.declared.answer.Refusal.{Refusal}
@@ -23,7 +23,7 @@ use Rattle.proposer.specs.Refused.{Keeps, message_keeps, tick_keeps}
 -- ---- refusals 1 and 2
 
 module _ (a w : List ℕ) (n : ℕ) (o : Outcome) where
-  refused_done : (t : Option Refusal) (r : Refusal) → t ≡ some r → Done a w (unless t (read_area a n) o) (Answer.Refused r) a w
+  refused_done : (t : Option Refusal) (r : Refusal) → t ≡ Some r → Done a w (unless t (read_area a n) o) (Answer.Refused r) a w
   refused_done t r e = rw e record { answer = refl; area = refl; written = refl }
 
   pub wrong_size : (s : Bool) → s ≡ sized a n → s ≡ false → Done a w (unless (first_due (area_tests a n w)) (read_area a n) o) (Answer.Refused Refusal.AreaSize) a w
@@ -50,7 +50,7 @@ area_kept a s o image keeps = by o.told (λ r e. ap area_image (keeps.keeps r e)
 module _ (a w : List ℕ) (n : ℕ) (s d : Bool) (es : s ≡ sized a n) (sizes : s ≡ true) (size : length w ≡ answer_bytes n) (ed : d ≡ is_image a n) (image : d ≡ true) (held : Held a n) (r : Answer) (a' w' : List ℕ) where
   done : (o : Outcome) → Keeps (read_area a n) o → Worked w o r a' w' → Done a w (unless (first_due (area_tests a n w)) (read_area a n) o) r a' w'
   done o keeps h =
-      let passed : first_due (area_tests a n w) ≡ none = rw (sym es ∙ sizes, eq-eqb (length w) (answer_bytes n) size, sym ed ∙ image) in
+      let passed : first_due (area_tests a n w) ≡ None = rw (sym es ∙ sizes, eq-eqb (length w) (answer_bytes n) size, sym ed ∙ image) in
       rw passed record { answer = h.answer; area = h.area ∙ area_kept a (read_area a n) o held.image keeps; written = h.written }
 
   pub received : (from : Address) (at : ℕ) (m : Message) → Worked w (receive (read_area a n) from at m) r a' w' → Done a w (outcome_on a n w from at m) r a' w'

@@ -1,7 +1,7 @@
 -- "Each sends nothing and leaves state": where a message or a tick is refused, the state is the one before.
 -- Assumes nothing.
 use Rattle.std.specs.Prelude.{◌≡◌, refl, Bool, true, false, cond, List, [], ◌∷◌, ℕ, ◌+◌}
-use Rattle.std.proofs.Math.Option.{Option, none, some}
+use Rattle.std.specs.Prelude.{Option, None, Some}
 use Rattle.std.proofs.Common.{arith}
 use Rattle.messages.specs.declared.Address.{Address}
 use Rattle.messages.specs.declared.Ballot.{Ballot}
@@ -35,8 +35,8 @@ rows_told s s' (x ∷ l) = record { keeps = λ r e. let z : ◌≡◌ {A = ℕ} 
 -- ---- choices
 
 unless_keeps : (s : Proposer) (t : Option Refusal) (o : Outcome) → Keeps s o → Keeps s (unless t s o)
-unless_keeps s none o h = h
-unless_keeps s (some r) o h = record { keeps = λ x e. refl }
+unless_keeps s None o h = h
+unless_keeps s (Some r) o h = record { keeps = λ x e. refl }
 
 cond_keeps : (s : Proposer) (t : Bool) (o o' : Outcome) → Keeps s o → Keeps s o' → Keeps s (cond t o o')
 cond_keeps s true o o' h h' = h
@@ -52,23 +52,23 @@ module _ (s : Proposer) where
   granted_keeps : (p : Pending) → Keeps s (granted s p)
   granted_keeps p =
       cond_keeps s (reached p.acks_from p.waiting_for)
-      (outcome (after s.counter p (some (to_accept s p))) (to_each s.accept_acceptors (Message.AcceptReq p.ballot (key_of p.req) (applied p.req p.value).value)))
-      (outcome (after s.counter p (some p)) nothing)
-      (each_told s (after s.counter p (some (to_accept s p))) s.accept_acceptors (Message.AcceptReq p.ballot (key_of p.req) (applied p.req p.value).value))
-      (nothing_told s (after s.counter p (some p)))
+      (outcome (after s.counter p (Some (to_accept s p))) (to_each s.accept_acceptors (Message.AcceptReq p.ballot (key_of p.req) (applied p.req p.value).value)))
+      (outcome (after s.counter p (Some p)) nothing)
+      (each_told s (after s.counter p (Some (to_accept s p))) s.accept_acceptors (Message.AcceptReq p.ballot (key_of p.req) (applied p.req p.value).value))
+      (nothing_told s (after s.counter p (Some p)))
 
   rejected_keeps : (p : Pending) (from : Address) (last : Ballot) → Keeps s (rejected s p from last)
   rejected_keeps p from last =
       let c = raised s.counter last in
-      let retry : Proposer = after (c + 1) p (some (asked s c p.client p.id p.req p.received_at true)) in
+      let retry : Proposer = after (c + 1) p (Some (asked s c p.client p.id p.req p.received_at true)) in
       let failure : Message = Message.ClientResponse p.id (Reply.Failed (Failure.ProposalRejected last)) in
       let asking : Message = Message.ProposeReq (next_ballot c) (key_of p.req) in
-      let noted : Proposer = after c p (some (with_no p from)) in
+      let noted : Proposer = after c p (Some (with_no p from)) in
       cond_keeps s (reached (with_no p from).nacks_from p.waiting_for)
-      (cond p.retried (outcome (after c p none) (one p.client failure)) (outcome retry (to_each s.propose_acceptors asking)))
+      (cond p.retried (outcome (after c p None) (one p.client failure)) (outcome retry (to_each s.propose_acceptors asking)))
       (outcome noted nothing)
-      (cond_keeps s p.retried (outcome (after c p none) (one p.client failure)) (outcome retry (to_each s.propose_acceptors asking))
-      (one_told s (after c p none) p.client failure)
+      (cond_keeps s p.retried (outcome (after c p None) (one p.client failure)) (outcome retry (to_each s.propose_acceptors asking))
+      (one_told s (after c p None) p.client failure)
       (each_told s retry s.propose_acceptors asking))
       (nothing_told s noted)
 
@@ -76,20 +76,20 @@ module _ (s : Proposer) where
   taken_keeps p =
       let reply : Message = Message.ClientResponse p.id (reply_of p.req p.value) in
       cond_keeps s (reached p.acks_from p.waiting_for)
-      (outcome (after s.counter p none) (one p.client reply))
-      (outcome (after s.counter p (some p)) nothing)
-      (one_told s (after s.counter p none) p.client reply)
-      (nothing_told s (after s.counter p (some p)))
+      (outcome (after s.counter p None) (one p.client reply))
+      (outcome (after s.counter p (Some p)) nothing)
+      (one_told s (after s.counter p None) p.client reply)
+      (nothing_told s (after s.counter p (Some p)))
 
   turned_keeps : (p : Pending) (from : Address) (last : Ballot) → Keeps s (turned_down s p from last)
   turned_keeps p from last =
       let c = raised s.counter last in
       let failure : Message = Message.ClientResponse p.id (Reply.Failed (Failure.AcceptRejected last)) in
-      let noted : Proposer = after c p (some (with_no p from)) in
+      let noted : Proposer = after c p (Some (with_no p from)) in
       cond_keeps s (reached (with_no p from).nacks_from p.waiting_for)
-      (outcome (after c p none) (one p.client failure))
+      (outcome (after c p None) (one p.client failure))
       (outcome noted nothing)
-      (one_told s (after c p none) p.client failure)
+      (one_told s (after c p None) p.client failure)
       (nothing_told s noted)
 
 promise_keeps : (s : Proposer) (p : Pending) (from : Address) (b : Ballot) (v : Option Value) (res : Result) → Keeps s (promise_work s p from b v res)
@@ -104,8 +104,8 @@ first_keeps s p Accept from b v res = nothing_told s s
 first_keeps s p Propose from b v res = unless_keeps s (first_due (promise_tests s p from res)) (promise_work s p from b v res) (promise_keeps s p from b v res)
 
 on_promise_keeps : (s : Proposer) (o : Option Pending) (from : Address) (b : Ballot) (v : Option Value) (res : Result) → Keeps s (on_promise s o from b v res)
-on_promise_keeps s none from b v res = nothing_told s s
-on_promise_keeps s (some p) from b v res = first_keeps s p p.phase from b v res
+on_promise_keeps s None from b v res = nothing_told s s
+on_promise_keeps s (Some p) from b v res = first_keeps s p p.phase from b v res
 
 acceptance_keeps : (s : Proposer) (p : Pending) (from : Address) (res : Result) → Keeps s (acceptance_work s p from res)
 acceptance_keeps s p from Result.Ok = taken_keeps s (with_yes p from p.promised p.value)
@@ -115,8 +115,8 @@ acceptance_keeps s p from (Result.Err (Failure.CasFailed w)) = nothing_told s s
 acceptance_keeps s p from (Result.Err Failure.Timeout) = nothing_told s s
 
 on_acceptance_keeps : (s : Proposer) (o : Option Pending) (from : Address) (res : Result) → Keeps s (on_acceptance s o from res)
-on_acceptance_keeps s none from res = nothing_told s s
-on_acceptance_keeps s (some p) from res = unless_keeps s (first_due (acceptance_tests p from res)) (acceptance_work s p from res) (acceptance_keeps s p from res)
+on_acceptance_keeps s None from res = nothing_told s s
+on_acceptance_keeps s (Some p) from res = unless_keeps s (first_due (acceptance_tests p from res)) (acceptance_work s p from res) (acceptance_keeps s p from res)
 
 work_keeps : (s : Proposer) (from : Address) (at : ℕ) (m : Message) → Keeps s (work s from at m)
 work_keeps s from at (Message.ClientRequest id r) =

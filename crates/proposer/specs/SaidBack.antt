@@ -2,7 +2,7 @@
 -- Assumes nothing.
 use Rattle.std.specs.Prelude.{◌≡◌, refl, Bool, true, false, not, cond, List, [], ◌∷◌, ℕ, zero, suc, ◌+◌, ◌*◌, ◌^◌, ◌≤◌, ◌<◌, length, drop, get_or}
 use Rattle.std.proofs.Common.{ap, arith, lit<}
-use Rattle.std.proofs.Math.Option.{Option, none, some}
+use Rattle.std.specs.Prelude.{Option, None, Some}
 use Rattle.std.proofs.lemmas.Bool.{not-false}
 use Rattle.std.proofs.lemmas.List.Edits.{sets}
 use Rattle.leaf_fields.specs.Fields.{Bytes}
@@ -39,9 +39,9 @@ pub record Speaks (w : List ℕ) (o : Outcome) : Type 0 where
 nothing_speaks : (w : List ℕ) (s : Proposer) → Speaks w (outcome s nothing)
 nothing_speaks w s = record { speaks = refl }
 
-unless_speaks : (w : List ℕ) (t : Option Refusal) (s : Proposer) (o : Outcome) → (t ≡ none → Speaks w o) → Speaks w (unless t s o)
-unless_speaks w none s o h = h refl
-unless_speaks w (some r) s o h = record { speaks = refl }
+unless_speaks : (w : List ℕ) (t : Option Refusal) (s : Proposer) (o : Outcome) → (t ≡ None → Speaks w o) → Speaks w (unless t s o)
+unless_speaks w None s o h = h refl
+unless_speaks w (Some r) s o h = record { speaks = refl }
 
 cond_speaks : (w : List ℕ) (t : Bool) (o o' : Outcome) → Speaks w o → Speaks w o' → Speaks w (cond t o o')
 cond_speaks w true o o' h h' = h
@@ -68,18 +68,18 @@ module _ (w : List ℕ) (n : ℕ) (size : length w ≡ answer_bytes n) (s : Prop
     granted_speaks : Speaks w (granted s p)
     granted_speaks =
         cond_speaks w (reached p.acks_from p.waiting_for)
-        (outcome (moved s s.counter (replace_at p.ballot (some (to_accept s p)) s.places)) (to_each s.accept_acceptors (Message.AcceptReq p.ballot (key_of p.req) (applied p.req p.value).value)))
-        (outcome (moved s s.counter (replace_at p.ballot (some p) s.places)) nothing)
+        (outcome (moved s s.counter (replace_at p.ballot (Some (to_accept s p)) s.places)) (to_each s.accept_acceptors (Message.AcceptReq p.ballot (key_of p.req) (applied p.req p.value).value)))
+        (outcome (moved s s.counter (replace_at p.ballot (Some p) s.places)) nothing)
         (record { speaks = said_accepts w p.ballot (key_of p.req) (applied p.req p.value).value s.accept_acceptors (applied_short p.req p.value lawful.first.short lawful.second.short lawful.promised.short) lawful.key.short ok.lawful.accept roomy })
-        (nothing_speaks w (moved s s.counter (replace_at p.ballot (some p) s.places)))
+        (nothing_speaks w (moved s s.counter (replace_at p.ballot (Some p) s.places)))
 
     rejected_speaks : (from : Address) (last : Ballot) → Speaks w (rejected s p from last)
     rejected_speaks from last =
         let c = raised s.counter last in
         let failure : Reply = Reply.Failed (Failure.ProposalRejected last) in
-        let gone : Proposer = moved s c (replace_at p.ballot none s.places) in
-        let retry : Proposer = moved s (c + 1) (replace_at p.ballot (some (asked s c p.client p.id p.req p.received_at true)) s.places) in
-        let noted : Proposer = moved s c (replace_at p.ballot (some (with_no p from)) s.places) in
+        let gone : Proposer = moved s c (replace_at p.ballot None s.places) in
+        let retry : Proposer = moved s (c + 1) (replace_at p.ballot (Some (asked s c p.client p.id p.req p.received_at true)) s.places) in
+        let noted : Proposer = moved s c (replace_at p.ballot (Some (with_no p from)) s.places) in
         cond_speaks w (reached (with_no p from).nacks_from p.waiting_for)
         (cond p.retried (outcome gone (to_client p failure)) (outcome retry (proposals s c p.req))) (outcome noted nothing)
         (cond_speaks w p.retried (outcome gone (to_client p failure)) (outcome retry (proposals s c p.req)) (client_speaks gone p failure (omega arith)) (proposals_speak retry c p.req lawful.key.short))
@@ -87,8 +87,8 @@ module _ (w : List ℕ) (n : ℕ) (size : length w ≡ answer_bytes n) (s : Prop
 
     taken_speaks : Speaks w (taken s p)
     taken_speaks =
-        let gone : Proposer = moved s s.counter (replace_at p.ballot none s.places) in
-        let noted : Proposer = moved s s.counter (replace_at p.ballot (some p) s.places) in
+        let gone : Proposer = moved s s.counter (replace_at p.ballot None s.places) in
+        let noted : Proposer = moved s s.counter (replace_at p.ballot (Some p) s.places) in
         cond_speaks w (reached p.acks_from p.waiting_for) (outcome gone (to_client p (reply_of p.req p.value))) (outcome noted nothing)
         (client_speaks gone p (reply_of p.req p.value) (reply_short p.req p.value lawful.first.short lawful.second.short lawful.promised.short))
         (nothing_speaks w noted)
@@ -97,14 +97,14 @@ module _ (w : List ℕ) (n : ℕ) (size : length w ≡ answer_bytes n) (s : Prop
     turned_speaks from last =
         let c = raised s.counter last in
         let failure : Reply = Reply.Failed (Failure.AcceptRejected last) in
-        let gone : Proposer = moved s c (replace_at p.ballot none s.places) in
-        let noted : Proposer = moved s c (replace_at p.ballot (some (with_no p from)) s.places) in
+        let gone : Proposer = moved s c (replace_at p.ballot None s.places) in
+        let noted : Proposer = moved s c (replace_at p.ballot (Some (with_no p from)) s.places) in
         cond_speaks w (reached (with_no p from).nacks_from p.waiting_for) (outcome gone (to_client p failure)) (outcome noted nothing) (client_speaks gone p failure (omega arith)) (nothing_speaks w noted)
 
   -- ---- answers
 
   module _ (from : Address) (from-fits : from.0 < 2 ^ 16) where
-    promise_work_speaks : (p : Pending) (lawful : Lawful p) (fit : Fit s.counter p) (b : Ballot) (v : Option Value) (res : Result) → b.0 < 2 ^ 64 → Short value_most (bytes_of v) → first_due (promise_tests s p from res) ≡ none → Speaks w (promise_work s p from b v res)
+    promise_work_speaks : (p : Pending) (lawful : Lawful p) (fit : Fit s.counter p) (b : Ballot) (v : Option Value) (res : Result) → b.0 < 2 ^ 64 → Short value_most (bytes_of v) → first_due (promise_tests s p from res) ≡ None → Speaks w (promise_work s p from b v res)
     promise_work_speaks p lawful fit b v Result.Ok high short due =
         let may = (sender_may s n ok from from-fits p _ due).0 in
         granted_speaks (promised_by p from b v) (promised_lawful p from b v lawful from-fits (room s.counter s.counter p from (omega arith) fit may).0 high short)
@@ -114,16 +114,16 @@ module _ (w : List ℕ) (n : ℕ) (size : length w ≡ answer_bytes n) (s : Prop
     promise_work_speaks p lawful fit b v (Result.Err Failure.Timeout) high short due = nothing_speaks w s
 
     promise_speaks : (ballot : Ballot) (o : Option Pending) → pending_at ballot s.places ≡ o → (b : Ballot) (v : Option Value) (res : Result) → b.0 < 2 ^ 64 → Short value_most (bytes_of v) → Speaks w (on_promise s o from b v res)
-    promise_speaks ballot none e b v res high short = nothing_speaks w s
-    promise_speaks ballot (some p) e b v res high short = by p.phase (pending_holds s n ok from from-fits ballot p e)
+    promise_speaks ballot None e b v res high short = nothing_speaks w s
+    promise_speaks ballot (Some p) e b v res high short = by p.phase (pending_holds s n ok from from-fits ballot p e)
       where
         by : (h : Phase) → Lawful p × Fit s.counter p → Speaks w (in_first s p h from b v res)
         by Accept holds = nothing_speaks w s
         by Propose holds = unless_speaks w (first_due (promise_tests s p from res)) s (promise_work s p from b v res) (λ due. promise_work_speaks p holds.0 holds.1 b v res high short due)
 
-    acceptance_work_speaks : (p : Pending) (lawful : Lawful p) (fit : Fit s.counter p) (res : Result) → first_due (acceptance_tests p from res) ≡ none → Speaks w (acceptance_work s p from res)
+    acceptance_work_speaks : (p : Pending) (lawful : Lawful p) (fit : Fit s.counter p) (res : Result) → first_due (acceptance_tests p from res) ≡ None → Speaks w (acceptance_work s p from res)
     acceptance_work_speaks p lawful fit Result.Ok due =
-        let may = (sender_may s n ok from from-fits p none (none_due (first_phase p.phase) Refusal.FirstPhase _ due).1).0 in
+        let may = (sender_may s n ok from from-fits p None (none_due (first_phase p.phase) Refusal.FirstPhase _ due).1).0 in
         taken_speaks (with_yes p from p.promised p.value)
         (lawful_yes p lawful from p.promised p.value from-fits (room s.counter s.counter p from (omega arith) fit may).0 lawful.promised_fits lawful.promised)
     acceptance_work_speaks p lawful fit (Result.Err (Failure.ProposalRejected last)) due = nothing_speaks w s
@@ -132,8 +132,8 @@ module _ (w : List ℕ) (n : ℕ) (size : length w ≡ answer_bytes n) (s : Prop
     acceptance_work_speaks p lawful fit (Result.Err Failure.Timeout) due = nothing_speaks w s
 
     acceptance_speaks : (ballot : Ballot) (o : Option Pending) → pending_at ballot s.places ≡ o → (res : Result) → Speaks w (on_acceptance s o from res)
-    acceptance_speaks ballot none e res = nothing_speaks w s
-    acceptance_speaks ballot (some p) e res =
+    acceptance_speaks ballot None e res = nothing_speaks w s
+    acceptance_speaks ballot (Some p) e res =
         let holds = pending_holds s n ok from from-fits ballot p e in
         unless_speaks w (first_due (acceptance_tests p from res)) s (acceptance_work s p from res) (λ due. acceptance_work_speaks p holds.0 holds.1 res due)
 
@@ -161,7 +161,7 @@ module _ (w : List ℕ) (n : ℕ) (size : length w ≡ answer_bytes n) (s : Prop
       unfolding receive
       message_speaks m typed =
           unless_speaks w (first_due (message_tests from m)) s (work s from at m)
-          (λ due. work_speaks m typed (not-false _ (none_due (not (within_limits from m)) Refusal.OverLimit none (none_due (foreign m) Refusal.WrongKind _ due).1).0))
+          (λ due. work_speaks m typed (not-false _ (none_due (not (within_limits from m)) Refusal.OverLimit None (none_due (foreign m) Refusal.WrongKind _ due).1).0))
 
 -- ---- a tick
 
@@ -182,8 +182,8 @@ insert_lawful p (q ∷ l) hp hl = go (above p.ballot q.ballot) (insert_lawful p 
 late_lawful : (s : Proposer) (t : ℕ) (l : List (Option Pending)) → LawfulPlaces l → AllLawful (late_ones s t l)
 unfolding late_ones LawfulPlaces AllLawful
 late_lawful s t [] h = tt
-late_lawful s t (none ∷ l) h = late_lawful s t l (λ i. h (suc i))
-late_lawful s t (some p ∷ l) h = go (late s t p) (late_lawful s t l (λ i. h (suc i)))
+late_lawful s t (None ∷ l) h = late_lawful s t l (λ i. h (suc i))
+late_lawful s t (Some p ∷ l) h = go (late s t p) (late_lawful s t l (λ i. h (suc i)))
   where
     go : (z : Bool) → AllLawful (late_ones s t l) → AllLawful (cond z (insert p (late_ones s t l)) (late_ones s t l))
     go true rest = insert_lawful p (late_ones s t l) (h 0) rest

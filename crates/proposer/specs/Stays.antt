@@ -5,7 +5,7 @@ use Rattle.std.proofs.Common.{sym, subst, ◌∙◌, length-append}
 use Rattle.std.proofs.Math.Path.{ap}
 use Rattle.std.proofs.Math.Bool.{false}
 use mathlib.Core.List.{List, [], ◌∷◌, ◌++◌}
-use Rattle.std.proofs.Math.Option.{Option, none, some}
+use Rattle.std.specs.Prelude.{Option, None, Some}
 use native.Mathlib.Omega.{arith}
 use borrow.Author.Tests.{ne_eqb, leb-true, leb-false, le-leb, ltb-true, not-false}
 use Rattle.proposer_area.specs.Turns.{Sized, sized_of}
@@ -110,16 +110,16 @@ moved_next s n c l ok up most full lawful-all fits apart =
 length_replaced : (b : Ballot) (q : Option Pending) (l : List (Option Pending)) → length (replace_at b q l) ≡ length l
 unfolding replace_at
 length_replaced b q [] = refl
-length_replaced b q (none ∷ l) = ap suc (length_replaced b q l)
-length_replaced b q (some p ∷ l) = go (is_ballot b p) (length_replaced b q l)
+length_replaced b q (None ∷ l) = ap suc (length_replaced b q l)
+length_replaced b q (Some p ∷ l) = go (is_ballot b p) (length_replaced b q l)
   where
-    go : (t : Bool) → length (replace_at b q l) ≡ length l → length (cond t (q ∷ l) (some p ∷ replace_at b q l)) ≡ suc (length l)
+    go : (t : Bool) → length (replace_at b q l) ≡ length l → length (cond t (q ∷ l) (Some p ∷ replace_at b q l)) ≡ suc (length l)
     go true h = refl
     go false h = ap suc h
 
 lawful_cons : (q : Option Pending) (l : List (Option Pending)) → LawfulPlace q → LawfulPlaces l → LawfulPlaces (q ∷ l)
 unfolding LawfulPlaces
-lawful_cons q l hq hl = λ i. elim i as (λ z. LawfulPlace (get_or (q ∷ l) z none)) [ zero ↦ hq | suc j ↦ hl j ]
+lawful_cons q l hq hl = λ i. elim i as (λ z. LawfulPlace (get_or (q ∷ l) z None)) [ zero ↦ hq | suc j ↦ hl j ]
 
 lawful_tail : (q : Option Pending) (l : List (Option Pending)) → LawfulPlaces (q ∷ l) → LawfulPlaces l
 unfolding LawfulPlaces
@@ -132,25 +132,25 @@ lawful_head q l h = h 0
 lawful_replaced : (b : Ballot) (q : Option Pending) (l : List (Option Pending)) → LawfulPlace q → LawfulPlaces l → LawfulPlaces (replace_at b q l)
 unfolding replace_at
 lawful_replaced b q [] hq h = h
-lawful_replaced b q (none ∷ l) hq h = lawful_cons none (replace_at b q l) tt (lawful_replaced b q l hq (lawful_tail none l h))
-lawful_replaced b q (some p ∷ l) hq h =
-    go (is_ballot b p) (lawful_cons q l hq (lawful_tail (some p) l h)) (lawful_cons (some p) (replace_at b q l) (lawful_head (some p) l h) (lawful_replaced b q l hq (lawful_tail (some p) l h)))
+lawful_replaced b q (None ∷ l) hq h = lawful_cons None (replace_at b q l) tt (lawful_replaced b q l hq (lawful_tail None l h))
+lawful_replaced b q (Some p ∷ l) hq h =
+    go (is_ballot b p) (lawful_cons q l hq (lawful_tail (Some p) l h)) (lawful_cons (Some p) (replace_at b q l) (lawful_head (Some p) l h) (lawful_replaced b q l hq (lawful_tail (Some p) l h)))
   where
-    go : (t : Bool) → LawfulPlaces (q ∷ l) → LawfulPlaces (some p ∷ replace_at b q l) → LawfulPlaces (cond t (q ∷ l) (some p ∷ replace_at b q l))
+    go : (t : Bool) → LawfulPlaces (q ∷ l) → LawfulPlaces (Some p ∷ replace_at b q l) → LawfulPlaces (cond t (q ∷ l) (Some p ∷ replace_at b q l))
     go true x y = x
     go false x y = y
 
 length_taken : (p : Pending) (l : List (Option Pending)) → length (take_place p l) ≡ length l
 unfolding take_place
 length_taken p [] = refl
-length_taken p (none ∷ l) = refl
-length_taken p (some q ∷ l) = ap suc (length_taken p l)
+length_taken p (None ∷ l) = refl
+length_taken p (Some q ∷ l) = ap suc (length_taken p l)
 
 lawful_taken : (p : Pending) (l : List (Option Pending)) → Lawful p → LawfulPlaces l → LawfulPlaces (take_place p l)
 unfolding take_place
 lawful_taken p [] hp h = h
-lawful_taken p (none ∷ l) hp h = lawful_cons (some p) l hp (lawful_tail none l h)
-lawful_taken p (some q ∷ l) hp h = lawful_cons (some q) (take_place p l) (lawful_head (some q) l h) (lawful_taken p l hp (lawful_tail (some q) l h))
+lawful_taken p (None ∷ l) hp h = lawful_cons (Some p) l hp (lawful_tail None l h)
+lawful_taken p (Some q ∷ l) hp h = lawful_cons (Some q) (take_place p l) (lawful_head (Some q) l h) (lawful_taken p l hp (lawful_tail (Some q) l h))
 
 length-in_time : (s : Proposer) (t : ℕ) (l : List (Option Pending)) → length (in_time s t l) ≡ length l
 unfolding in_time
@@ -160,26 +160,26 @@ length-in_time s t (q ∷ l) = ap suc (length-in_time s t l)
 lawful_in_time : (s : Proposer) (t : ℕ) (l : List (Option Pending)) → LawfulPlaces l → LawfulPlaces (in_time s t l)
 unfolding in_time
 lawful_in_time s t [] h = h
-lawful_in_time s t (none ∷ l) h = lawful_cons none (in_time s t l) tt (lawful_in_time s t l (lawful_tail none l h))
-lawful_in_time s t (some p ∷ l) h = go (late s t p) (lawful_head (some p) l h) (lawful_in_time s t l (lawful_tail (some p) l h))
+lawful_in_time s t (None ∷ l) h = lawful_cons None (in_time s t l) tt (lawful_in_time s t l (lawful_tail None l h))
+lawful_in_time s t (Some p ∷ l) h = go (late s t p) (lawful_head (Some p) l h) (lawful_in_time s t l (lawful_tail (Some p) l h))
   where
-    go : (z : Bool) → Lawful p → LawfulPlaces (in_time s t l) → LawfulPlaces (cond z none (some p) ∷ in_time s t l)
-    go true hp hl = lawful_cons none (in_time s t l) tt hl
-    go false hp hl = lawful_cons (some p) (in_time s t l) hp hl
+    go : (z : Bool) → Lawful p → LawfulPlaces (in_time s t l) → LawfulPlaces (cond z None (Some p) ∷ in_time s t l)
+    go true hp hl = lawful_cons None (in_time s t l) tt hl
+    go false hp hl = lawful_cons (Some p) (in_time s t l) hp hl
 
 -- the request at a ballot
-found_holds : (c : ℕ) (b : Ballot) (l : List (Option Pending)) (p : Pending) → LawfulPlaces l → places_fit c l ≡ true → pending_at b l ≡ some p → Lawful p × (pending_fits c p ≡ true)
+found_holds : (c : ℕ) (b : Ballot) (l : List (Option Pending)) (p : Pending) → LawfulPlaces l → places_fit c l ≡ true → pending_at b l ≡ Some p → Lawful p × (pending_fits c p ≡ true)
 unfolding pending_at places_fit
 found_holds c b [] p h fits e = let z : ◌≡◌ {A = ℕ} 0 1 = cc in absurd (omega arith)
-found_holds c b (none ∷ l) p h fits e = found_holds c b l p (lawful_tail none l h) fits e
-found_holds c b (some q ∷ l) p h fits e =
+found_holds c b (None ∷ l) p h fits e = found_holds c b l p (lawful_tail None l h) fits e
+found_holds c b (Some q ∷ l) p h fits e =
     let parts = and_true (pending_fits c q) (places_fit c l) fits in
-    go (is_ballot b q) e (lawful_head (some q) l h) parts.0 (λ d. found_holds c b l p (lawful_tail (some q) l h) parts.1 d)
+    go (is_ballot b q) e (lawful_head (Some q) l h) parts.0 (λ d. found_holds c b l p (lawful_tail (Some q) l h) parts.1 d)
   where
-    same : some q ≡ some p → q ≡ p
+    same : Some q ≡ Some p → q ≡ p
     same d = cc
 
-    go : (t : Bool) → pick_pending t q (pending_at b l) ≡ some p → Lawful q → pending_fits c q ≡ true → (pending_at b l ≡ some p → Lawful p × (pending_fits c p ≡ true)) → Lawful p × (pending_fits c p ≡ true)
+    go : (t : Bool) → pick_pending t q (pending_at b l) ≡ Some p → Lawful q → pending_fits c q ≡ true → (pending_at b l ≡ Some p → Lawful p × (pending_fits c p ≡ true)) → Lawful p × (pending_fits c p ≡ true)
     go true d hq hf rest = (subst Lawful (same d) hq, subst (λ (x : Pending). pending_fits c x ≡ true) (same d) hf)
     go false d hq hf rest = rest d
 
@@ -289,8 +289,8 @@ module _ (c c' : ℕ) (p : Pending) (from : Address) (up : c ≤ c') (fit : Fit 
 
 -- a promise above another is no ballot 0
 promise_above_lem : (b q : Ballot) (v : Option Value) → above b q ≡ true → promise_fits b v ≡ true
-promise_above_lem b q none h = refl
-promise_above_lem b q (some v) h = rw (ne_eqb b.0 0 (λ e. omega (arith, ltb-true q.0 b.0 h, e)))
+promise_above_lem b q None h = refl
+promise_above_lem b q (Some v) h = rw (ne_eqb b.0 0 (λ e. omega (arith, ltb-true q.0 b.0 h, e)))
 
 second_fit : (c : ℕ) (p : Pending) (l : List ℕ) → Fit c p → list_fits l ≡ true → Fit c (second_phase l p)
 unfolding answers_fit all_listed distinct
@@ -327,14 +327,14 @@ new_fit c client id r l at again from-there fits list =
 -- ---- tests
 
 -- a test that is not due, and the ones behind it
-pub none_due : (t : Bool) (r : Refusal) (rest : Option Refusal) → pick_first t r rest ≡ none → (t ≡ false) × (rest ≡ none)
+pub none_due : (t : Bool) (r : Refusal) (rest : Option Refusal) → pick_first t r rest ≡ None → (t ≡ false) × (rest ≡ None)
 none_due true r rest e = let z : ◌≡◌ {A = ℕ} 0 1 = cc in absurd (omega arith)
 none_due false r rest e = (refl, e)
 
 -- a refusal leaves the state
-unless_next : (s : Proposer) (n : ℕ) (t : Option Refusal) (o : Outcome) → Lendable s n → (t ≡ none → Next s o.state n) → Next s (unless t s o).state n
-unless_next s n none o ok h = h refl
-unless_next s n (some r) o ok h = stays s n ok
+unless_next : (s : Proposer) (n : ℕ) (t : Option Refusal) (o : Outcome) → Lendable s n → (t ≡ None → Next s o.state n) → Next s (unless t s o).state n
+unless_next s n None o ok h = h refl
+unless_next s n (Some r) o ok h = stays s n ok
 
 cond_next : (s : Proposer) (n : ℕ) (t : Bool) (o o' : Outcome) → (t ≡ true → Next s o.state n) → (t ≡ false → Next s o'.state n) → Next s (cond t o o').state n
 cond_next s n true o o' h h' = h refl
@@ -353,16 +353,16 @@ module _ (s : Proposer) (n : ℕ) (ok : Lendable s n) (p : Pending) (lawful : La
       (lawful_replaced p.ballot q s.places hq ok.lawful.each)
       (places_replaced c p.ballot q s.places fits (places_higher s.counter c s.places up parts.places)) apart
 
-  same_next : (c : ℕ) (q : Pending) → s.counter ≤ c → c < 2 ^ 64 → Lawful q → Fit c q → q.ballot ≡ p.ballot → Next s (moved s c (replace_at p.ballot (some q) s.places)) n
+  same_next : (c : ℕ) (q : Pending) → s.counter ≤ c → c < 2 ^ 64 → Lawful q → Fit c q → q.ballot ≡ p.ballot → Next s (moved s c (replace_at p.ballot (Some q) s.places)) n
   same_next c q up most hq fits e =
-      replaced_next c (some q) up most hq (fit_is c q fits) (ap distinct (ballots_kept p.ballot q s.places e) ∙ parts.ballots)
+      replaced_next c (Some q) up most hq (fit_is c q fits) (ap distinct (ballots_kept p.ballot q s.places e) ∙ parts.ballots)
 
-  dropped_next : (c : ℕ) → s.counter ≤ c → c < 2 ^ 64 → Next s (moved s c (replace_at p.ballot none s.places)) n
-  dropped_next c up most = replaced_next c none up most tt refl (distinct_dropped p.ballot s.places parts.ballots)
+  dropped_next : (c : ℕ) → s.counter ≤ c → c < 2 ^ 64 → Next s (moved s c (replace_at p.ballot None s.places)) n
+  dropped_next c up most = replaced_next c None up most tt refl (distinct_dropped p.ballot s.places parts.ballots)
 
-  fresh_next : (c : ℕ) (q : Pending) → s.counter ≤ c → c + 1 < 2 ^ 64 → Lawful q → Fit (c + 1) q → q.ballot.0 ≡ c + 1 → Next s (moved s (c + 1) (replace_at p.ballot (some q) s.places)) n
+  fresh_next : (c : ℕ) (q : Pending) → s.counter ≤ c → c + 1 < 2 ^ 64 → Lawful q → Fit (c + 1) q → q.ballot.0 ≡ c + 1 → Next s (moved s (c + 1) (replace_at p.ballot (Some q) s.places)) n
   fresh_next c q up most hq fits e =
-      replaced_next (c + 1) (some q) (omega (arith, up)) most hq (fit_is (c + 1) q fits)
+      replaced_next (c + 1) (Some q) (omega (arith, up)) most hq (fit_is (c + 1) q fits)
       (distinct_fresh p.ballot q s.places parts.ballots
       (ap (λ (x : ℕ). listed x (ballots_of s.places)) e ∙ ballots_low c (c + 1) s.places (places_higher s.counter c s.places up parts.places) (omega arith)))
 
@@ -382,7 +382,7 @@ module _ (s : Proposer) (n : ℕ) (ok : Lendable s n) (p : Pending) (lawful : La
     -- a request with a yes noted, in either phase
     granted_next : (q : Pending) → Lawful q → Fit s.counter q → q.ballot ≡ p.ballot → Next s (granted s q).state n
     granted_next q hq fits e =
-        subst (λ (b : Ballot). Next s (cond (reached q.acks_from q.waiting_for) (outcome (moved s s.counter (replace_at b (some (to_accept s q)) s.places)) (to_each s.accept_acceptors (Message.AcceptReq q.ballot (key_of q.req) (applied q.req q.value).value))) (outcome (moved s s.counter (replace_at b (some q) s.places)) nothing)).state n) (sym e)
+        subst (λ (b : Ballot). Next s (cond (reached q.acks_from q.waiting_for) (outcome (moved s s.counter (replace_at b (Some (to_accept s q)) s.places)) (to_each s.accept_acceptors (Message.AcceptReq q.ballot (key_of q.req) (applied q.req q.value).value))) (outcome (moved s s.counter (replace_at b (Some q) s.places)) nothing)).state n) (sym e)
         (cond_next s n (reached q.acks_from q.waiting_for) _ _
         (λ t. same_next s.counter (to_accept s q) (omega arith) counter_most_lem (lawful_second q hq s.accept_acceptors ok.lawful.accept) (second_fit s.counter q s.accept_acceptors fits parts.accept) e)
         (λ t. same_next s.counter q (omega arith) counter_most_lem hq fits e))
@@ -398,7 +398,7 @@ module _ (s : Proposer) (n : ℕ) (ok : Lendable s n) (p : Pending) (lawful : La
             granted_next (with_yes p from p.promised p.value) (lawful_yes p lawful from p.promised p.value from-fits rooms.0 lawful.promised_fits lawful.promised)
             (yes_fit s.counter s.counter p from (omega arith) fit may p.promised p.value fit.value fit.promise) refl
 
-    no_next : (c : ℕ) → s.counter ≤ c → c < 2 ^ 64 → Next s (moved s c (replace_at p.ballot (some (with_no p from)) s.places)) n
+    no_next : (c : ℕ) → s.counter ≤ c → c < 2 ^ 64 → Next s (moved s c (replace_at p.ballot (Some (with_no p from)) s.places)) n
     no_next c up most = same_next c (with_no p from) up most (lawful_no p lawful from from-fits rooms.1) (no_fit s.counter c p from up fit may) refl
 
     rejected_next : (last : Ballot) → last.0 < 2 ^ 64 → (reached (with_no p from).nacks_from p.waiting_for && not p.retried && used_up (raised s.counter last)) ≡ false → Next s (rejected s p from last).state n
@@ -406,9 +406,9 @@ module _ (s : Proposer) (n : ℕ) (ok : Lendable s n) (p : Pending) (lawful : La
         let c = raised s.counter last in
         let up = raised_up last in
         let most = raised_most last high in
-        cond_next s n (reached (with_no p from).nacks_from p.waiting_for) _ (outcome (moved s c (replace_at p.ballot (some (with_no p from)) s.places)) nothing)
-        (λ t. cond_next s n p.retried (outcome (moved s c (replace_at p.ballot none s.places)) (to_client p (Reply.Failed (Failure.ProposalRejected last))))
-        (outcome (moved s (c + 1) (replace_at p.ballot (some (asked s c p.client p.id p.req p.received_at true)) s.places)) (proposals s c p.req))
+        cond_next s n (reached (with_no p from).nacks_from p.waiting_for) _ (outcome (moved s c (replace_at p.ballot (Some (with_no p from)) s.places)) nothing)
+        (λ t. cond_next s n p.retried (outcome (moved s c (replace_at p.ballot None s.places)) (to_client p (Reply.Failed (Failure.ProposalRejected last))))
+        (outcome (moved s (c + 1) (replace_at p.ballot (Some (asked s c p.client p.id p.req p.received_at true)) s.places)) (proposals s c p.req))
         (λ again. dropped_next c up most)
         (λ first.
         let left : used_up c ≡ false = rw (t, first) at due in
@@ -421,8 +421,8 @@ module _ (s : Proposer) (n : ℕ) (ok : Lendable s n) (p : Pending) (lawful : La
     taken_next : Next s (taken s (with_yes p from p.promised p.value)).state n
     taken_next =
         let q = with_yes p from p.promised p.value in
-        cond_next s n (reached q.acks_from q.waiting_for) (outcome (moved s s.counter (replace_at p.ballot none s.places)) (to_client q (reply_of q.req q.value)))
-        (outcome (moved s s.counter (replace_at p.ballot (some q) s.places)) nothing)
+        cond_next s n (reached q.acks_from q.waiting_for) (outcome (moved s s.counter (replace_at p.ballot None s.places)) (to_client q (reply_of q.req q.value)))
+        (outcome (moved s s.counter (replace_at p.ballot (Some q) s.places)) nothing)
         (λ t. dropped_next s.counter (omega arith) counter_most_lem)
         (λ t. same_next s.counter q (omega arith) counter_most_lem (lawful_yes p lawful from p.promised p.value from-fits rooms.0 lawful.promised_fits lawful.promised)
         (yes_fit s.counter s.counter p from (omega arith) fit may p.promised p.value fit.value fit.promise) refl)
@@ -430,26 +430,26 @@ module _ (s : Proposer) (n : ℕ) (ok : Lendable s n) (p : Pending) (lawful : La
     turned_next : (last : Ballot) → last.0 < 2 ^ 64 → Next s (turned_down s p from last).state n
     turned_next last high =
         let c = raised s.counter last in
-        cond_next s n (reached (with_no p from).nacks_from p.waiting_for) (outcome (moved s c (replace_at p.ballot none s.places)) (to_client p (Reply.Failed (Failure.AcceptRejected last))))
-        (outcome (moved s c (replace_at p.ballot (some (with_no p from)) s.places)) nothing)
+        cond_next s n (reached (with_no p from).nacks_from p.waiting_for) (outcome (moved s c (replace_at p.ballot None s.places)) (to_client p (Reply.Failed (Failure.AcceptRejected last))))
+        (outcome (moved s c (replace_at p.ballot (Some (with_no p from)) s.places)) nothing)
         (λ t. dropped_next c (raised_up last) (raised_most last high))
         (λ t. no_next c (raised_up last) (raised_most last high))
 
 -- ---- answers
 
 module _ (s : Proposer) (n : ℕ) (ok : Lendable s n) (from : Address) (from-fits : from.0 < 2 ^ 16) where
-  pub sender_may : (p : Pending) (rest : Option Refusal) → pick_first (listed from.0 p.acks_from || listed from.0 p.nacks_from) Refusal.Repeated (pick_first (not (listed from.0 p.waiting_for)) Refusal.NotWaitedFor rest) ≡ none → MayAnswer p from × (rest ≡ none)
+  pub sender_may : (p : Pending) (rest : Option Refusal) → pick_first (listed from.0 p.acks_from || listed from.0 p.nacks_from) Refusal.Repeated (pick_first (not (listed from.0 p.waiting_for)) Refusal.NotWaitedFor rest) ≡ None → MayAnswer p from × (rest ≡ None)
   sender_may p rest e =
       let first = none_due (listed from.0 p.acks_from || listed from.0 p.nacks_from) Refusal.Repeated _ e in
       let second = none_due (not (listed from.0 p.waiting_for)) Refusal.NotWaitedFor rest first.1 in
       let neither = or_false (listed from.0 p.acks_from) (listed from.0 p.nacks_from) first.0 in
       (record { no_yes = neither.0; no_no = neither.1; there = not-false _ second.0 }, second.1)
 
-  promise_work_next : (p : Pending) (lawful : Lawful p) (fit : Fit s.counter p) (b : Ballot) (v : Option Value) (res : Result) → b.0 < 2 ^ 64 → Short value_most (bytes_of v) → option_fits v ≡ true → TypedResult res → first_due (promise_tests s p from res) ≡ none → Next s (promise_work s p from b v res).state n
+  promise_work_next : (p : Pending) (lawful : Lawful p) (fit : Fit s.counter p) (b : Ballot) (v : Option Value) (res : Result) → b.0 < 2 ^ 64 → Short value_most (bytes_of v) → option_fits v ≡ true → TypedResult res → first_due (promise_tests s p from res) ≡ None → Next s (promise_work s p from b v res).state n
   promise_work_next p lawful fit b v Result.Ok high short fits typed due = promised_next s n ok p lawful fit from from-fits (sender_may p _ due).0 b v high short fits
   promise_work_next p lawful fit b v (Result.Err (Failure.ProposalRejected last)) high short fits typed due =
       let sender = sender_may p _ due in
-      rejected_next s n ok p lawful fit from from-fits sender.0 last typed (none_due _ Refusal.CounterUsedUp none sender.1).0
+      rejected_next s n ok p lawful fit from from-fits sender.0 last typed (none_due _ Refusal.CounterUsedUp None sender.1).0
   promise_work_next p lawful fit b v (Result.Err (Failure.AcceptRejected last)) high short fits typed due = stays s n ok
   promise_work_next p lawful fit b v (Result.Err (Failure.CasFailed w)) high short fits typed due = stays s n ok
   promise_work_next p lawful fit b v (Result.Err Failure.Timeout) high short fits typed due = stays s n ok
@@ -462,14 +462,14 @@ module _ (s : Proposer) (n : ℕ) (ok : Lendable s n) (from : Address) (from-fit
   acceptance_work_next p lawful fit (Result.Err Failure.Timeout) typed may = stays s n ok
 
   -- the pending request that an answer is for
-  pub pending_holds : (ballot : Ballot) (p : Pending) → pending_at ballot s.places ≡ some p → Lawful p × Fit s.counter p
+  pub pending_holds : (ballot : Ballot) (p : Pending) → pending_at ballot s.places ≡ Some p → Lawful p × Fit s.counter p
   pending_holds ballot p e =
       let found = found_holds s.counter ballot s.places p ok.lawful.each (parts_of s ok.lent).places e in
       (found.0, fit_of s.counter p found.1)
 
   promise_next : (ballot : Ballot) (o : Option Pending) → pending_at ballot s.places ≡ o → (b : Ballot) (v : Option Value) (res : Result) → b.0 < 2 ^ 64 → Short value_most (bytes_of v) → option_fits v ≡ true → TypedResult res → Next s (on_promise s o from b v res).state n
-  promise_next ballot none e b v res high short fits typed = stays s n ok
-  promise_next ballot (some p) e b v res high short fits typed = by p.phase
+  promise_next ballot None e b v res high short fits typed = stays s n ok
+  promise_next ballot (Some p) e b v res high short fits typed = by p.phase
     where
       by : (h : Phase) → Next s (in_first s p h from b v res).state n
       by Accept = stays s n ok
@@ -479,11 +479,11 @@ module _ (s : Proposer) (n : ℕ) (ok : Lendable s n) (from : Address) (from-fit
           (λ due. promise_work_next p holds.0 holds.1 b v res high short fits typed due)
 
   acceptance_next : (ballot : Ballot) (o : Option Pending) → pending_at ballot s.places ≡ o → (res : Result) → TypedResult res → Next s (on_acceptance s o from res).state n
-  acceptance_next ballot none e res typed = stays s n ok
-  acceptance_next ballot (some p) e res typed =
+  acceptance_next ballot None e res typed = stays s n ok
+  acceptance_next ballot (Some p) e res typed =
       let holds = pending_holds ballot p e in
       unless_next s n (first_due (acceptance_tests p from res)) (acceptance_work s p from res) ok
-      (λ due. acceptance_work_next p holds.0 holds.1 res typed (sender_may p (pick_first (foreign_acceptance res) Refusal.ForeignError none) (none_due (first_phase p.phase) Refusal.FirstPhase _ due).1).0)
+      (λ due. acceptance_work_next p holds.0 holds.1 res typed (sender_may p (pick_first (foreign_acceptance res) Refusal.ForeignError None) (none_due (first_phase p.phase) Refusal.FirstPhase _ due).1).0)
 
 -- ---- a message
 
@@ -554,7 +554,7 @@ module _ (s : Proposer) (n : ℕ) (ok : Lendable s n) (from : Address) (at : ℕ
   unfolding receive
   message_next m typed =
       unless_next s n (first_due (message_tests from m)) (work s from at m) ok
-      (λ due. work_next m typed (not-false _ (none_due (not (within_limits from m)) Refusal.OverLimit none (none_due (foreign m) Refusal.WrongKind _ due).1).0))
+      (λ due. work_next m typed (not-false _ (none_due (not (within_limits from m)) Refusal.OverLimit None (none_due (foreign m) Refusal.WrongKind _ due).1).0))
 
 -- and so does every tick
 pub tick_next : (s : Proposer) (n t : ℕ) → Lendable s n → Next s (tick s t).state n

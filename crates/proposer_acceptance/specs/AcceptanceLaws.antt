@@ -4,7 +4,7 @@ use Rattle.std.specs.Prelude.{◌≡◌, refl, Bool, true, false, not, cond, ◌
 use Rattle.std.proofs.Common.{sym, subst, ◌∙◌}
 use Rattle.std.proofs.Math.Path.{ap}
 use Rattle.std.proofs.lemmas.Bool.{false≢true, not-true, not-false}
-use Rattle.std.proofs.Math.Option.{Option, none, some}
+use Rattle.std.specs.Prelude.{Option, None, Some}
 use Prim.Native.Nat.{ℕ, ◌+◌, ◌^◌, ◌<◌, max}
 use Rattle.std.proofs.lemmas.List.Edits.{sets}
 use Rattle.messages.specs.declared.Address.{Address}
@@ -62,7 +62,7 @@ module _ (a w : List ℕ) (n i : ℕ) (f : Front) (held : Held a n) (pends : Pen
   abbrev here : Applied
   here = applied (request_in f.req (values a n i f held pends ef) f.first_len) (given f.mark (promised a n i f held pends ef))
 
-  pub request_settled : (req : Req) (mark new : OptionValue) (client : Address) (failed : Bool) (len : ℕ) (response : Response) (w₁ a₁ : List ℕ) → req ≡ f.req → mark ≡ f.mark → client ≡ f.client → failed ≡ (applied (request_in req (values a n i f held pends ef) f.first_len) (given mark (promised a n i f held pends ef))).failed → new ≡ marked (applied (request_in req (values a n i f held pends ef) f.first_len) (given mark (promised a n i f held pends ef))).value → len ≡ length (bytes_of (applied (request_in req (values a n i f held pends ef) f.first_len) (given mark (promised a n i f held pends ef))).value) → w₁ ≡ sets w 0 (bytes_of (applied (request_in req (values a n i f held pends ef) f.first_len) (given mark (promised a n i f held pends ef))).value) → a₁ ≡ sets a (place_at i) (place_image none) → response ≡ cond failed (Response.Err (Error.CasFailed new)) (Response.Ok new) → Worked w (settled (read_area a n) i (read_pending (place_in a i))) (Answer.Message client (Rpc.ClientResponse f.id response) len) a₁ w₁
+  pub request_settled : (req : Req) (mark new : OptionValue) (client : Address) (failed : Bool) (len : ℕ) (response : Response) (w₁ a₁ : List ℕ) → req ≡ f.req → mark ≡ f.mark → client ≡ f.client → failed ≡ (applied (request_in req (values a n i f held pends ef) f.first_len) (given mark (promised a n i f held pends ef))).failed → new ≡ marked (applied (request_in req (values a n i f held pends ef) f.first_len) (given mark (promised a n i f held pends ef))).value → len ≡ length (bytes_of (applied (request_in req (values a n i f held pends ef) f.first_len) (given mark (promised a n i f held pends ef))).value) → w₁ ≡ sets w 0 (bytes_of (applied (request_in req (values a n i f held pends ef) f.first_len) (given mark (promised a n i f held pends ef))).value) → a₁ ≡ sets a (place_at i) (place_image None) → response ≡ cond failed (Response.Err (Error.CasFailed new)) (Response.Ok new) → Worked w (settled (read_area a n) i (read_pending (place_in a i))) (Answer.Message client (Rpc.ClientResponse f.id response) len) a₁ w₁
   unfolding front_of
   request_settled req mark new client failed len response w₁ a₁ ereq emark eclient efailed enew elen ew ea er =
       let p = read_pending (place_in a i) in
@@ -72,7 +72,7 @@ module _ (a w : List ℕ) (n i : ℕ) (f : Front) (held : Held a n) (pends : Pen
       let told = reply_told p w in
       record {
         answer = rw (er, efailed, enew, elen, same, front-client, front-id) told.0;
-        area = ea ∙ with_place a n held i none pends.within tt;
+        area = ea ∙ with_place a n held i None pends.within tt;
         written = ew ∙ rw same told.1;
       }
 
@@ -96,20 +96,20 @@ module _ (a w : List ℕ) (n i : ℕ) (f : Front) (from : Address) (short : Bool
     unfolding front_of
     yeses_reached = rw (more p.acks_from from.0, ef)
 
-    pub acceptance_noted : (a₁ : List ℕ) → short ≡ true → from.0 < 2 ^ 16 → a₁ ≡ sets a (place_at i) (place_image (some q)) → Worked w (acceptance_work state p from Result.Ok) Answer.Nothing a₁ w
+    pub acceptance_noted : (a₁ : List ℕ) → short ≡ true → from.0 < 2 ^ 16 → a₁ ≡ sets a (place_at i) (place_image (Some q)) → Worked w (acceptance_work state p from Result.Ok) Answer.Nothing a₁ w
     acceptance_noted a₁ few fits ea =
         let ok : Lawful p = lawful_pending a n held i asks.pends in
         rw (yeses_reached ∙ not-true _ (sym es ∙ few))
         record {
           answer = refl;
-          area = ea ∙ with_place a n held i (some q) asks.pends.within (lawful_yes p ok from p.promised p.value fits asks.more_yeses ok.promised_fits ok.promised) ∙ ap area_image (sym (replaced state.counter (some q)));
+          area = ea ∙ with_place a n held i (Some q) asks.pends.within (lawful_yes p ok from p.promised p.value fits asks.more_yeses ok.promised_fits ok.promised) ∙ ap area_image (sym (replaced state.counter (Some q)));
           written = refl;
         }
 
     pub acceptance_settled : (a₁ w₁ : List ℕ) (r : Answer) → short ≡ false → Worked w (settled state i p) r a₁ w₁ → Worked w (acceptance_work state p from Result.Ok) r a₁ w₁
     acceptance_settled a₁ w₁ r enough work =
         rw (yeses_reached ∙ not-false _ (sym es ∙ enough))
-        record { answer = work.answer; area = work.area ∙ ap area_image (sym (replaced state.counter none)); written = work.written }
+        record { answer = work.answer; area = work.area ∙ ap area_image (sym (replaced state.counter None)); written = work.written }
 
   module _ (h : Header) (last : Ballot) (counter : ℕ) (eh : h ≡ header_in a) (ec : counter ≡ max h.counter last.0) (es : short ≡ not (leb (majority_of f.waiting_for) (f.nacks_from + 1))) where
     noes_reached : reached (with_no p from).nacks_from p.waiting_for ≡ leb (majority_of f.waiting_for) (f.nacks_from + 1)
@@ -120,21 +120,21 @@ module _ (a w : List ℕ) (n i : ℕ) (f : Front) (from : Address) (short : Bool
     unfolding read_area
     counter_same = ec ∙ ap (λ (g : Header). max g.counter last.0) eh
 
-    pub turned_noted : (a₁ : List ℕ) → short ≡ true → a₁ ≡ area_image (placed state counter i (some (with_no p from))) → Worked w (acceptance_work state p from (Result.Err (Failure.AcceptRejected last))) Answer.Nothing a₁ w
+    pub turned_noted : (a₁ : List ℕ) → short ≡ true → a₁ ≡ area_image (placed state counter i (Some (with_no p from))) → Worked w (acceptance_work state p from (Result.Err (Failure.AcceptRejected last))) Answer.Nothing a₁ w
     turned_noted a₁ few ea =
         rw (noes_reached ∙ not-true _ (sym es ∙ few))
         record {
           answer = refl;
-          area = ea ∙ ap (λ (c : ℕ). area_image (placed state c i (some (with_no p from)))) counter_same ∙ ap area_image (sym (replaced (raised state.counter last) (some (with_no p from))));
+          area = ea ∙ ap (λ (c : ℕ). area_image (placed state c i (Some (with_no p from)))) counter_same ∙ ap area_image (sym (replaced (raised state.counter last) (Some (with_no p from))));
           written = refl;
         }
 
-    pub turned_told : (a₁ : List ℕ) (r : Answer) → short ≡ false → r ≡ answer_of (to_client p (Reply.Failed (failure_of (Error.AcceptRejected last) []))) → a₁ ≡ area_image (placed state counter i none) → Worked w (acceptance_work state p from (Result.Err (Failure.AcceptRejected last))) r a₁ w
+    pub turned_told : (a₁ : List ℕ) (r : Answer) → short ≡ false → r ≡ answer_of (to_client p (Reply.Failed (failure_of (Error.AcceptRejected last) []))) → a₁ ≡ area_image (placed state counter i None) → Worked w (acceptance_work state p from (Result.Err (Failure.AcceptRejected last))) r a₁ w
     turned_told a₁ r enough er ea =
         rw (noes_reached ∙ not-false _ (sym es ∙ enough))
         record {
           answer = er;
-          area = ea ∙ ap (λ (c : ℕ). area_image (placed state c i none)) counter_same ∙ ap area_image (sym (replaced (raised state.counter last) none));
+          area = ea ∙ ap (λ (c : ℕ). area_image (placed state c i None)) counter_same ∙ ap area_image (sym (replaced (raised state.counter last) None));
           written = refl;
         }
 
@@ -150,19 +150,19 @@ module _ (a w : List ℕ) (n i : ℕ) (ballot : Ballot) (f : Front) (from : Addr
   in_second_lem : (res : Result) → on_acceptance now_state (pending_at ballot now_state.places) from res ≡ unless (first_due (acceptance_tests pending from res)) now_state (acceptance_work now_state pending from res)
   in_second_lem res = ap (λ (o : Option Pending). on_acceptance now_state o from res) (found_only a [] n i ballot held ei within)
 
-  refused : (res : Result) (r : Refusal) → first_due (acceptance_tests pending from res) ≡ some r → Worked w (on_acceptance now_state (pending_at ballot now_state.places) from res) (Answer.Refused r) a w
+  refused : (res : Result) (r : Refusal) → first_due (acceptance_tests pending from res) ≡ Some r → Worked w (on_acceptance now_state (pending_at ballot now_state.places) from res) (Answer.Refused r) a w
   refused res r due =
       subst (λ (o : Outcome). Worked w o (Answer.Refused r) a w) (sym (in_second_lem res))
       (refused_work a w now_state (first_due (acceptance_tests pending from res)) (acceptance_work now_state pending from res) r held.image due)
 
   pub acceptance_early : (res : Result) → f.phase ≡ Code.Phase.Propose → Worked w (on_acceptance now_state (pending_at ballot now_state.places) from res) (Answer.Refused Refusal.FirstPhase) a w
   acceptance_early res e =
-      let early : first_phase pending.phase ≡ true = ap first_phase (first_phase_lem a [] n i ballot f from ballot none held ei within ef e) in
+      let early : first_phase pending.phase ≡ true = ap first_phase (first_phase_lem a [] n i ballot f from ballot None held ei within ef e) in
       refused res Refusal.FirstPhase (rw early)
 
   module _ (second : f.phase ≡ Code.Phase.Accept) where
     past_first : (rest : Option Refusal) → pick_first (first_phase pending.phase) Refusal.FirstPhase rest ≡ rest
-    past_first rest = ap (λ (h : Phase). pick_first (first_phase h) Refusal.FirstPhase rest) (second_phase_lem a [] n i ballot f from ballot none held ei within ef second)
+    past_first rest = ap (λ (h : Phase). pick_first (first_phase h) Refusal.FirstPhase rest) (second_phase_lem a [] n i ballot f from ballot None held ei within ef second)
 
     pub acceptance_repeated : (res : Result) (answered : Bool) → answered ≡ (listed from.0 pending.acks_from || listed from.0 pending.nacks_from) → answered ≡ true → Worked w (on_acceptance now_state (pending_at ballot now_state.places) from res) (Answer.Refused Refusal.Repeated) a w
     acceptance_repeated res answered ea yes-answered = refused res Refusal.Repeated (past_first _ ∙ rw (sym ea ∙ yes-answered))

@@ -1,7 +1,7 @@
 -- An area that is the image of a state that fits its fields, and a place of it that holds a pending request.
 -- Assumes nothing.
 use Rattle.std.specs.Prelude.{◌≡◌, true, List, ℕ, ◌<◌, get_or}
-use Rattle.std.proofs.Math.Option.{none, some}
+use Rattle.std.specs.Prelude.{None, Some}
 use Rattle.proposer_place.specs.Area.{area_image, read_area, read_pending, sized}
 use Rattle.proposer_place.specs.AreaLaws.{LawfulState}
 use Rattle.proposer_area.specs.Places.{place_in}
@@ -13,4 +13,4 @@ pub record Held (a : List ℕ) (n : ℕ) : Type 0 where
 
 pub record Pends (a : List ℕ) (n i : ℕ) : Type 0 where
   pub within : i < n
-  pub used : get_or (read_area a n).places i none ≡ some (read_pending (place_in a i))
+  pub used : get_or (read_area a n).places i None ≡ Some (read_pending (place_in a i))

@@ -3,7 +3,7 @@
 use Rattle.std.specs.Prelude.{◌≡◌, true, List, [], ◌∷◌, ℕ, zero, suc, ◌+◌, ◌-◌, ◌*◌, ◌≤◌, ◌<◌, length, get_or, set, take, drop}
 use Rattle.std.proofs.Math.Path.{refl, sym, ap}
 use Rattle.std.proofs.Common.{subst, ◌∙◌, append-nil, zero-add, suc-add, le-leb, eq-eqb, length-append, take-take, drop-drop}
-use Rattle.std.proofs.Math.Option.{Option, none, some}
+use Rattle.std.specs.Prelude.{Option, None, Some}
 use native.Mathlib.Omega.{arith}
 use Rattle.std.proofs.lemmas.List.Edits.{sets}
 use Rattle.std.proofs.Math.Seq.{take-nil, drop-nil}
@@ -51,10 +51,10 @@ module _ (a : List ℕ) (n : ℕ) (held : Held a n) where
   abbrev state : Proposer
   state = read_area a n
 
-  pub place_image_lem : (i : ℕ) → i < n → place_in a i ≡ place_image (get_or state.places i none)
+  pub place_image_lem : (i : ℕ) → i < n → place_in a i ≡ place_image (get_or state.places i None)
   place_image_lem i lt = ap (λ (r : List ℕ). place_in r i) held.image ∙ area_part state n held.lawful i lt
 
-  pub lawful_at : (i : ℕ) → LawfulPlace (get_or state.places i none)
+  pub lawful_at : (i : ℕ) → LawfulPlace (get_or state.places i None)
   unfolding LawfulPlaces
   lawful_at i = held.lawful.each i
 
@@ -65,7 +65,7 @@ module _ (a : List ℕ) (n : ℕ) (held : Held a n) where
   used_place i pends =
       record { image = place_image_lem i pends.within ∙ ap place_image pends.used; lawful = lawful_pending i pends }
 
-  pub free_place : (i : ℕ) → i < n → get_or state.places i none ≡ none → place_in a i ≡ place_image none
+  pub free_place : (i : ℕ) → i < n → get_or state.places i None ≡ None → place_in a i ≡ place_image None
   free_place i lt free = place_image_lem i lt ∙ ap place_image free
 
   -- ---- another place, and then another counter
@@ -138,7 +138,7 @@ module _ (a : List ℕ) (n i : ℕ) (held : Held a n) (pends : Pends a n i) wher
   abbrev pending : Pending
   pending = read_pending (place_in a i)
 
-  within_place : (b k : ℕ) → b + k ≤ place_bytes → part a (place_at i + b) k ≡ part (place_image (some pending)) b k
+  within_place : (b k : ℕ) → b + k ≤ place_bytes → part a (place_at i + b) k ≡ part (place_image (Some pending)) b k
   within_place b k room =
       sym (part-part a (place_at i) place_bytes b k room) ∙ ap (λ (r : List ℕ). part r b k) (used_place a n held i pends).image
 
@@ -146,17 +146,17 @@ module _ (a : List ℕ) (n i : ℕ) (held : Held a n) (pends : Pends a n i) wher
   lawful = lawful_pending a n held i pends
 
   pub key_lent : (k : ℕ) → k ≡ length (key_of pending.req) → part a (place_at i + key_start) k ≡ key_of pending.req
-  key_lent k e = within_place key_start k (omega (arith, e, lawful.key.short)) ∙ ap (λ (j : ℕ). part (place_image (some pending)) key_start j) e ∙ key_part pending lawful
+  key_lent k e = within_place key_start k (omega (arith, e, lawful.key.short)) ∙ ap (λ (j : ℕ). part (place_image (Some pending)) key_start j) e ∙ key_part pending lawful
 
   pub values_lent : (k m : ℕ) → k ≡ length (bytes_of (first_value pending.req)) → m ≡ length (bytes_of (second_value pending.req)) → part a (place_at i + values_at) (k + m) ≡ values_of pending.req
   values_lent k m ek em =
       let both : k + m ≡ length (values_of pending.req) = omega (arith, ek, em, length-append (bytes_of (first_value pending.req)) (bytes_of (second_value pending.req))) in
       within_place values_at (k + m) (omega (arith, ek, em, lawful.first.short, lawful.second.short))
-      ∙ ap (λ (j : ℕ). part (place_image (some pending)) values_at j) both
+      ∙ ap (λ (j : ℕ). part (place_image (Some pending)) values_at j) both
       ∙ values_part pending lawful
 
   pub promised_lent : (k : ℕ) → k ≡ length (bytes_of pending.value) → part a (place_at i + promised_value_at) k ≡ bytes_of pending.value
-  promised_lent k e = within_place promised_value_at k (omega (arith, e, lawful.promised.short)) ∙ ap (λ (j : ℕ). part (place_image (some pending)) promised_value_at j) e ∙ promised_part pending lawful
+  promised_lent k e = within_place promised_value_at k (omega (arith, e, lawful.promised.short)) ∙ ap (λ (j : ℕ). part (place_image (Some pending)) promised_value_at j) e ∙ promised_part pending lawful
 
 -- the entries of a list of any length, from the front of its bytes
 pub entries_back : (l : List ℕ) → ShortList l → entries (entry_bytes l) 0 (length l) ≡ l

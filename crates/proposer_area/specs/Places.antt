@@ -1,7 +1,7 @@
 -- The places of a lent area: where each stands, and which of them a request or a free place is.
 -- Assumes nothing.
 use Rattle.std.specs.Prelude.{cond, List, [], ◌∷◌, ℕ, suc, ◌+◌, ◌*◌}
-use Rattle.std.proofs.Math.Option.{Option, none, some}
+use Rattle.std.specs.Prelude.{Option, None, Some}
 use Rattle.leaf_fields.specs.Fields.{part, byte}
 use Rattle.messages.specs.declared.Ballot.{Ballot}
 use Rattle.proposer_rules.specs.State.{Pending}
@@ -26,11 +26,11 @@ header_in a = record { counter = long_at a counter_at; timeout = long_at a timeo
 -- the request at a ballot
 unfoldable pub place_of : Ballot → List (Option Pending) → ℕ
 place_of b [] = 0
-place_of b (none ∷ l) = suc (place_of b l)
-place_of b (some p ∷ l) = cond (is_ballot b p) 0 (suc (place_of b l))
+place_of b (None ∷ l) = suc (place_of b l)
+place_of b (Some p ∷ l) = cond (is_ballot b p) 0 (suc (place_of b l))
 
 -- the lowest free place
 unfoldable pub free_of : List (Option Pending) → ℕ
 free_of [] = 0
-free_of (none ∷ l) = 0
-free_of (some p ∷ l) = suc (free_of l)
+free_of (None ∷ l) = 0
+free_of (Some p ∷ l) = suc (free_of l)

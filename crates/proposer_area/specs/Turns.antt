@@ -3,7 +3,7 @@
 use Rattle.std.specs.Prelude.{◌≡◌, refl, Bool, true, false, not, cond, ◌&&◌, List, [], ◌∷◌, eqb, leb, length, get_or}
 use Rattle.std.proofs.Common.{ap, add-zero, eqb-true, leb-true}
 use Rattle.std.proofs.lemmas.Bool.{false≢true}
-use Rattle.std.proofs.Math.Option.{Option, none, some}
+use Rattle.std.specs.Prelude.{Option, None, Some}
 use Prim.Native.Nat.{ℕ, zero, suc, ◌+◌, ◌-◌, ◌*◌, ◌≤◌, ◌<◌}
 use Rattle.std.proofs.Math.Nat.{sub-zero}
 use native.Mathlib.Omega.{arith}
@@ -69,7 +69,7 @@ unfolding read_places
 length_read a at zero = refl
 length_read a at (suc n) = ap suc (length_read a (at + place_bytes) n)
 
-read_from : (a : List ℕ) (at n i : ℕ) → i < n → get_or (read_places a at n) i none ≡ read_place (part a (at + place_bytes * i) place_bytes)
+read_from : (a : List ℕ) (at n i : ℕ) → i < n → get_or (read_places a at n) i None ≡ read_place (part a (at + place_bytes * i) place_bytes)
 unfolding read_places
 read_from a at zero i h = absurd (omega arith)
 read_from a at (suc n) zero h = rw add-zero
@@ -77,7 +77,7 @@ read_from a at (suc n) (suc i) h =
     let e : at + 976 + 976 * i ≡ at + 976 * suc i = omega arith in
     rw e at (read_from a (at + place_bytes) n i (omega arith))
 
-pub read_at : (a : List ℕ) (n i : ℕ) → i < n → get_or (read_places a header_bytes n) i none ≡ read_place (place_in a i)
+pub read_at : (a : List ℕ) (n i : ℕ) → i < n → get_or (read_places a header_bytes n) i None ≡ read_place (place_in a i)
 read_at a n i h = read_from a header_bytes n i h
 
 -- the part that a turn lends
@@ -96,14 +96,14 @@ lent_length a n i z more = rw lent_place_lem (length-part a (80 + 976 * i) 976 (
 
 -- a test of a used place, which no free one passes
 abbrev pub passes : (Pending → Bool) → Option Pending → Bool
-passes f none = false
-passes f (some p) = f p
+passes f None = false
+passes f (Some p) = f p
 
 used_passes : (f : Pending → Bool) (b : List ℕ) → (not (eqb (byte b used_at) 0) && f (read_pending b)) ≡ passes f (read_place b)
 unfolding read_place
 used_passes f b = go (eqb (byte b used_at) 0)
   where
-    go : (z : Bool) → (not z && f (read_pending b)) ≡ passes f (cond z none (some (read_pending b)))
+    go : (z : Bool) → (not z && f (read_pending b)) ≡ passes f (cond z None (Some (read_pending b)))
     go true = refl
     go false = refl
 
@@ -119,10 +119,10 @@ pub used_decides : (b : List ℕ) (z r x : Bool) → z ≡ eqb (byte b 0) 0 → 
 used_decides b z r x e h d = rw (← e, h) d
 
 -- a place that passes is used
-pub used_place : (f : Pending → Bool) (b : List ℕ) → passes f (read_place b) ≡ true → (read_place b ≡ some (read_pending b)) × (f (read_pending b) ≡ true)
+pub used_place : (f : Pending → Bool) (b : List ℕ) → passes f (read_place b) ≡ true → (read_place b ≡ Some (read_pending b)) × (f (read_pending b) ≡ true)
 unfolding read_place
 used_place f b h = go (eqb (byte b used_at) 0) h
   where
-    go : (z : Bool) → passes f (cond z none (some (read_pending b))) ≡ true → (cond z none (some (read_pending b)) ≡ some (read_pending b)) × (f (read_pending b) ≡ true)
+    go : (z : Bool) → passes f (cond z None (Some (read_pending b))) ≡ true → (cond z None (Some (read_pending b)) ≡ Some (read_pending b)) × (f (read_pending b) ≡ true)
     go true h' = absurd (false≢true h')
     go false h' = (refl, h')

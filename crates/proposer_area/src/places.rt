@@ -1,6 +1,6 @@
 // One place of an area: its 976 bytes alone are lent on.
 ghost use Rattle.std.specs.Prelude.{◌≡◌, true, ◌||◌, [], ◌++◌, ◌+◌, ◌*◌, ◌≤◌, ◌<◌, length};
-ghost use Rattle.std.proofs.Math.Option.{none, some};
+ghost use Rattle.std.specs.Prelude.{None, Some};
 ghost use Rattle.std.proofs.lemmas.List.Edits.{sets};
 ghost use Rattle.messages.specs.Message.{given};
 ghost use Rattle.messages.specs.Limits.{key_most, list_most, option_fits};
@@ -55,7 +55,7 @@ pub fn is_waited_for(area: &[u8], i: usize, f: Front, from: Address) -> bool
 // Place i made free.
 pub fn drop_place(area: &mut [u8], i: usize)
     requires { place_at i + place_bytes ≤ length area.old }
-    ensures { area.new ≡ sets area.old (place_at i) (place_image none) }
+    ensures { area.new ≡ sets area.old (place_at i) (place_image None) }
 {
     let at = HEADER + PLACE * i;
     leaf_fields::clear(&mut area[at..at + PLACE]);
@@ -71,7 +71,7 @@ pub fn fill_place(
     first: &[u8],
     second: &[u8],
 )
-    requires { (place_at i + place_bytes ≤ length area.old) × (place_in area.old i ≡ place_image none) × (Small f) × (length waited.now ≤ list_bytes) × (length key.now ≤ key_most) × (length first.now + length second.now ≤ values_bytes) }
+    requires { (place_at i + place_bytes ≤ length area.old) × (place_in area.old i ≡ place_image None) × (Small f) × (length waited.now ≤ list_bytes) × (length key.now ≤ key_most) × (length first.now + length second.now ≤ values_bytes) }
     ensures { area.new ≡ sets area.old (place_at i) (place_rows (front_bytes f) waited.now [] [] key.now (first.now ++ second.now) []) }
 {
     let at = HEADER + PLACE * i;
@@ -91,7 +91,7 @@ pub fn fill_place(
 // One more no at place i.
 pub fn note_no(area: &mut [u8], i: usize, from: Address)
     requires { (place_at i + place_bytes ≤ length area.old) × (Used (place_in area.old i)) × (length (read_pending (place_in area.old i)).nacks_from < list_most) }
-    ensures { area.new ≡ sets area.old (place_at i) (place_image (some (with_no (read_pending (place_in area.old i)) from))) }
+    ensures { area.new ≡ sets area.old (place_at i) (place_image (Some (with_no (read_pending (place_in area.old i)) from))) }
 {
     let at = HEADER + PLACE * i;
     proposer_place::note_no(&mut area[at..at + PLACE], from);
@@ -100,7 +100,7 @@ pub fn note_no(area: &mut [u8], i: usize, from: Address)
 // One more yes at place i; the promise stays as it was.
 pub fn note_yes(area: &mut [u8], i: usize, from: Address)
     requires { (place_at i + place_bytes ≤ length area.old) × (Used (place_in area.old i)) × (length (read_pending (place_in area.old i)).acks_from < list_most) }
-    ensures { area.new ≡ sets area.old (place_at i) (place_image (some (with_yes (read_pending (place_in area.old i)) from (read_pending (place_in area.old i)).promised (read_pending (place_in area.old i)).value))) }
+    ensures { area.new ≡ sets area.old (place_at i) (place_image (Some (with_yes (read_pending (place_in area.old i)) from (read_pending (place_in area.old i)).promised (read_pending (place_in area.old i)).value))) }
 {
     let at = HEADER + PLACE * i;
     proposer_place::note_yes(&mut area[at..at + PLACE], from);
@@ -117,7 +117,7 @@ pub fn note_promise(
     value: &[u8],
 )
     requires { (place_at i + place_bytes ≤ length area.old) × (Used (place_in area.old i)) × (f ≡ front_of (read_pending (place_in area.old i))) × (length (read_pending (place_in area.old i)).acks_from < list_most) × (option_fits (given mark value.now) ≡ true) }
-    ensures { area.new ≡ sets area.old (place_at i) (place_image (some (promised_by (read_pending (place_in area.old i)) from accepted (given mark value.now)))) }
+    ensures { area.new ≡ sets area.old (place_at i) (place_image (Some (promised_by (read_pending (place_in area.old i)) from accepted (given mark value.now)))) }
 {
     let at = HEADER + PLACE * i;
     if !accepted.above(f.promised) {
@@ -130,7 +130,7 @@ pub fn note_promise(
 // The second phase of the request at place i: the n entries of the list are waited for.
 pub fn second_phase(area: &mut [u8], i: usize, list: &[u8], n: usize)
     requires { (place_at i + place_bytes ≤ length area.old) × (Used (place_in area.old i)) × (n ≤ list_most) × (length list.now ≡ 2 * n) }
-    ensures { area.new ≡ sets area.old (place_at i) (place_image (some (second_phase (entries list.now 0 n) (read_pending (place_in area.old i))))) }
+    ensures { area.new ≡ sets area.old (place_at i) (place_image (Some (second_phase (entries list.now 0 n) (read_pending (place_in area.old i))))) }
 {
     let at = HEADER + PLACE * i;
     proposer_place::second_phase(&mut area[at..at + PLACE], list, n);
@@ -139,7 +139,7 @@ pub fn second_phase(area: &mut [u8], i: usize, list: &[u8], n: usize)
 // The request at place i anew at a ballot: the n entries of the list are waited for.
 pub fn again(area: &mut [u8], i: usize, ballot: Ballot, list: &[u8], n: usize)
     requires { (place_at i + place_bytes ≤ length area.old) × (Used (place_in area.old i)) × (n ≤ list_most) × (length list.now ≡ 2 * n) }
-    ensures { area.new ≡ sets area.old (place_at i) (place_image (some (asked_again ballot (entries list.now 0 n) (read_pending (place_in area.old i))))) }
+    ensures { area.new ≡ sets area.old (place_at i) (place_image (Some (asked_again ballot (entries list.now 0 n) (read_pending (place_in area.old i))))) }
 {
     let at = HEADER + PLACE * i;
     proposer_place::again(&mut area[at..at + PLACE], ballot, list, n);

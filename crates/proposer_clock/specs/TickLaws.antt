@@ -5,7 +5,7 @@ use Rattle.std.proofs.Math.Path.{refl, sym, ap, subst}
 use Rattle.std.proofs.Common.{◌∙◌, arith, ne_eqb, length-append}
 use Rattle.std.proofs.Math.Bool.{cond}
 use mathlib.Core.List.{List, [], ◌∷◌, ◌++◌, append-nil, append_assoc}
-use Rattle.std.proofs.Math.Option.{Option, none, some}
+use Rattle.std.specs.Prelude.{Option, None, Some}
 use Prim.Native.Nat.{ℕ, suc, ◌+◌, ◌*◌, ◌≤◌, ◌<◌}
 use Rattle.std.proofs.Math.Decide.{dec_lt}
 use Rattle.std.proofs.Math.ListN.{length, set}
@@ -43,22 +43,22 @@ module _ (s s' : Proposer) (t : ℕ) (same : s.timeout ≡ s'.timeout) where
   pub ones_same : (l : List (Option Pending)) → late_ones s t l ≡ late_ones s' t l
   unfolding late_ones
   ones_same [] = refl
-  ones_same (none ∷ l) = ones_same l
-  ones_same (some p ∷ l) = rw (late_same p, ones_same l)
+  ones_same (None ∷ l) = ones_same l
+  ones_same (Some p ∷ l) = rw (late_same p, ones_same l)
 
   pub kept_same : (l : List (Option Pending)) → in_time s t l ≡ in_time s' t l
   unfolding in_time
   kept_same [] = refl
-  kept_same (none ∷ l) = ap (λ (r : List (Option Pending)). none ∷ r) (kept_same l)
-  kept_same (some p ∷ l) = rw (late_same p, kept_same l)
+  kept_same (None ∷ l) = ap (λ (r : List (Option Pending)). None ∷ r) (kept_same l)
+  kept_same (Some p ∷ l) = rw (late_same p, kept_same l)
 
 late_within : (s : Proposer) (t : ℕ) (l : List (Option Pending)) → late_of s t l ≤ length l
 unfolding late_of
 late_within s t [] = omega arith
-late_within s t (none ∷ l) = omega (arith, late_within s t l)
-late_within s t (some p ∷ l) = go (late s t p && none_below s t p.ballot l) (late_within s t l)
+late_within s t (None ∷ l) = omega (arith, late_within s t l)
+late_within s t (Some p ∷ l) = go (late s t p && none_below s t p.ballot l) (late_within s t l)
   where
-    go : (z : Bool) → late_of s t l ≤ length l → cond z 0 (suc (late_of s t l)) ≤ length (some p ∷ l)
+    go : (z : Bool) → late_of s t l ≤ length l → cond z 0 (suc (late_of s t l)) ≤ length (Some p ∷ l)
     go true h = omega arith
     go false h = omega (arith, h)
 
@@ -144,18 +144,18 @@ module _ (a w : List ℕ) (n t k : ℕ) (a' w' : List ℕ) (here : Expiring a w 
       ]
 
   -- one more row
-  pub expire_goes_on : (i : ℕ) (f : Front) (a₁ w₁ : List ℕ) → i ≡ late_of now_s t (read_places a' header_bytes n) → i < n → f ≡ front_of (read_pending (place_in a' i)) → w₁ ≡ sets w' (rows_at + row_bytes * k) (rows_bytes (record { client = f.client; id = f.id } ∷ [])) → a₁ ≡ sets a' (place_at i) (place_image none) → Expiring a w n t (suc k) a₁ w₁
+  pub expire_goes_on : (i : ℕ) (f : Front) (a₁ w₁ : List ℕ) → i ≡ late_of now_s t (read_places a' header_bytes n) → i < n → f ≡ front_of (read_pending (place_in a' i)) → w₁ ≡ sets w' (rows_at + row_bytes * k) (rows_bytes (record { client = f.client; id = f.id } ∷ [])) → a₁ ≡ sets a' (place_at i) (place_image None) → Expiring a w n t (suc k) a₁ w₁
   unfolding read_area front_of rows_of
   expire_goes_on i f a₁ w₁ ei within ef ew ea =
       let l = now_s.places in
-      let l₁ = set l i none in
+      let l₁ = set l i None in
       let found : LateAt now_s t l i = late_some now_s t l i (sym ei) (rw here.held.lawful.full within) in
       let p = found.pending in
       let lawful : Lawful p = subst (λ (q : Option Pending). LawfulPlace q) found.there (lawful_at a' n here.held i) in
       let same_pending : read_pending (place_in a' i) ≡ p = ap read_pending (place_image_lem a' n here.held i within ∙ ap place_image found.there) ∙ read_pending_lem p lawful in
       let s₁ : Proposer = moved now_s now_s.counter l₁ in
-      let s₁-lawful : LawfulState s₁ n = lawful_place_set now_s n i none here.held.lawful tt in
-      let image : a₁ ≡ area_image s₁ = ea ∙ with_place a' n here.held i none within tt in
+      let s₁-lawful : LawfulState s₁ n = lawful_place_set now_s n i None here.held.lawful tt in
+      let image : a₁ ≡ area_image s₁ = ea ∙ with_place a' n here.held i None within tt in
       let back : read_area a₁ n ≡ s₁ = ap (λ (u : List ℕ). read_area u n) image ∙ read_written s₁ n s₁-lawful in
       let places_back : (read_area a₁ n).places ≡ l₁ = ap (λ (x : Proposer). x.places) back in
       let first : late_ones s t l ≡ p ∷ late_ones s t l₁ = sym (ones_same now_s s t timeout_same l) ∙ found.first ∙ ap (λ (r : List Pending). p ∷ r) (ones_same now_s s t timeout_same l₁) in

@@ -3,7 +3,7 @@
 use Rattle.std.specs.Prelude.{◌≡◌, refl, Bool, true, false, cond, List, [], ◌∷◌, ◌++◌, ℕ, zero, suc, ◌+◌, ◌-◌, ◌*◌, eqb, take, drop}
 use Rattle.std.proofs.Common.{sym, ◌∙◌, arith}
 use Rattle.std.proofs.Math.Path.{ap}
-use Rattle.std.proofs.Math.Option.{Option, none, some}
+use Rattle.std.specs.Prelude.{Option, None, Some}
 use Rattle.std.proofs.Math.ListN.{length}
 use Rattle.leaf_fields.specs.Fields.{part, span, byte, Bytes}
 use Rattle.messages.specs.Message.{Key, Value, Request}
@@ -29,7 +29,7 @@ take_taken (suc n) (x ∷ l) = ap (λ (r : List ℕ). x ∷ r) (take_taken n l)
 value_front : (mark n : ℕ) (l : List ℕ) → take (length (bytes_of (value_from mark (take n l)))) l ≡ bytes_of (value_from mark (take n l))
 value_front mark n l = go (eqb mark 0)
   where
-    go : (z : Bool) → take (length (bytes_of (cond z none (some (take n l))))) l ≡ bytes_of (cond z none (some (take n l)))
+    go : (z : Bool) → take (length (bytes_of (cond z None (Some (take n l))))) l ≡ bytes_of (cond z None (Some (take n l)))
     go true = refl
     go false = take_taken n l
 
@@ -120,7 +120,7 @@ module _ (b : List ℕ) (f : Front) (taken : TakenFrom b f) where
         sym (entries_bytes b 112 f.nacks_from (omega arith) bytes) ∙ ap entry_bytes (sym (no_taken b f taken))
 
     -- the place that is written of these rows is the image
-    pub written_again : place_rows (front_bytes f) (span b 52 (52 + 2 * f.waiting_for)) (span b 82 (82 + 2 * f.acks_from)) (span b 112 (112 + 2 * f.nacks_from)) (span b 144 (144 + f.key_len)) (span b 208 (208 + f.first_len) ++ span b (208 + f.first_len) (208 + f.first_len + f.second_len)) (span b 720 (720 + f.value_len)) ≡ place_image (some (read_pending b))
+    pub written_again : place_rows (front_bytes f) (span b 52 (52 + 2 * f.waiting_for)) (span b 82 (82 + 2 * f.acks_from)) (span b 112 (112 + 2 * f.nacks_from)) (span b 144 (144 + f.key_len)) (span b 208 (208 + f.first_len) ++ span b (208 + f.first_len) (208 + f.first_len + f.second_len)) (span b 720 (720 + f.value_len)) ≡ place_image (Some (read_pending b))
     written_again =
         rw (
           span-part 52 (2 * f.waiting_for),

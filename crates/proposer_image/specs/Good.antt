@@ -1,7 +1,7 @@
 -- The test of refusal 2 in parts, as the code takes them: the header, each place, the ballots. specs/GoodLaws.antt shows that it is the test `is_image`.
 -- Assumes nothing.
 use Rattle.std.specs.Prelude.{◌≡◌, Bool, true, false, not, cond, ◌&&◌, List, [], ◌∷◌, ℕ, zero, suc, ◌+◌, ◌*◌, ◌≤◌, eqb, leb, length}
-use Rattle.std.proofs.Math.Option.{some}
+use Rattle.std.specs.Prelude.{Some}
 use Rattle.leaf_fields.specs.Fields.{span, part, byte, all_zero, same}
 use Rattle.messages.specs.Limits.{list_most, none_zero}
 use Rattle.messages.specs.Answers.{entries}
@@ -26,7 +26,7 @@ header_good a =
 unfoldable pub used_good : ℕ → List ℕ → Bool
 used_good c b =
     sizes_fit (read_pending b)
-    && same b (place_image (some (read_pending b)))
+    && same b (place_image (Some (read_pending b)))
     && answers_fit (read_pending b)
     && promise_fits (read_pending b).promised (read_pending b).value
     && leb 1 (read_pending b).ballot.0

@@ -5,7 +5,7 @@ use Rattle.std.proofs.Math.Path.{sym, ap}
 use Rattle.std.proofs.Common.{◌∙◌, arith, eqb-true, eq-eqb, leb-true, le-leb, length-take, take-append-drop, drop-cons, drop-drop, take-add}
 use Rattle.std.proofs.Math.Bool.{true}
 use mathlib.Core.List.{List, [], ◌∷◌, ◌++◌, append_assoc}
-use Rattle.std.proofs.Math.Option.{Option, none, some}
+use Rattle.std.specs.Prelude.{Option, None, Some}
 use Rattle.std.proofs.Math.ListN.{length, length-drop}
 use Rattle.std.proofs.lemmas.List.{length-replicate}
 use Rattle.leaf_fields.specs.Fields.{to_le, part, span, byte, all_zero, same, Bytes, padded}
@@ -24,9 +24,9 @@ use Rattle.proposer_area.specs.Turns.{sized_of}
 -- ---- one place
 
 -- a used place is good where it is its request's image and the request fits
-used_parts : (c : ℕ) (b : List ℕ) → used_good c b ≡ (same b (place_image (some (read_pending b))) && pending_fits c (read_pending b))
+used_parts : (c : ℕ) (b : List ℕ) → used_good c b ≡ (same b (place_image (Some (read_pending b))) && pending_fits c (read_pending b))
 unfolding used_good pending_fits
-used_parts c b = go (sizes_fit (read_pending b)) (same b (place_image (some (read_pending b))))
+used_parts c b = go (sizes_fit (read_pending b)) (same b (place_image (Some (read_pending b))))
   where
     answers : Bool
     answers = answers_fit (read_pending b)
@@ -41,38 +41,38 @@ used_parts c b = go (sizes_fit (read_pending b)) (same b (place_image (some (rea
     go false false = refl
 
 abbrev place_fits : ℕ → Option Pending → Bool
-place_fits c none = true
-place_fits c (some p) = pending_fits c p
+place_fits c None = true
+place_fits c (Some p) = pending_fits c p
 
 -- the first of the places, and the others
 fits_both : (c : ℕ) (q : Option Pending) (l : List (Option Pending)) → places_fit c (q ∷ l) ≡ (place_fits c q && places_fit c l)
 unfolding places_fit
-fits_both c none l = refl
-fits_both c (some p) l = refl
+fits_both c None l = refl
+fits_both c (Some p) l = refl
 
-free_good : (b : List ℕ) → b ≡ place_image none → all_zero b ≡ true
+free_good : (b : List ℕ) → b ≡ place_image None → all_zero b ≡ true
 unfolding place_image
 free_good b e = ap all_zero e ∙ zeros_zero place_bytes
 
-free_image : (b : List ℕ) → length b ≡ place_bytes → all_zero b ≡ true → b ≡ place_image none
+free_image : (b : List ℕ) → length b ≡ place_bytes → all_zero b ≡ true → b ≡ place_image None
 unfolding place_image
 free_image b size h = zeros_are b h ∙ ap (λ (k : ℕ). replicate k 0) size
 
-used_good_lem : (c : ℕ) (b : List ℕ) → b ≡ place_image (some (read_pending b)) → pending_fits c (read_pending b) ≡ true → used_good c b ≡ true
+used_good_lem : (c : ℕ) (b : List ℕ) → b ≡ place_image (Some (read_pending b)) → pending_fits c (read_pending b) ≡ true → used_good c b ≡ true
 used_good_lem c b e fits =
-    let equal : same b (place_image (some (read_pending b))) ≡ true = ap (same b) (sym e) ∙ same_refl b in
+    let equal : same b (place_image (Some (read_pending b))) ≡ true = ap (same b) (sym e) ∙ same_refl b in
     used_parts c b ∙ rw (equal, fits)
 
-used_image : (c : ℕ) (b : List ℕ) → used_good c b ≡ true → (b ≡ place_image (some (read_pending b))) × (pending_fits c (read_pending b) ≡ true)
+used_image : (c : ℕ) (b : List ℕ) → used_good c b ≡ true → (b ≡ place_image (Some (read_pending b))) × (pending_fits c (read_pending b) ≡ true)
 used_image c b h =
-    let parts = and_true (same b (place_image (some (read_pending b)))) (pending_fits c (read_pending b)) (sym (used_parts c b) ∙ h) in
-    (same-true b (place_image (some (read_pending b))) parts.0, parts.1)
+    let parts = and_true (same b (place_image (Some (read_pending b)))) (pending_fits c (read_pending b)) (sym (used_parts c b) ∙ h) in
+    (same-true b (place_image (Some (read_pending b))) parts.0, parts.1)
 
 place_good_lem : (c : ℕ) (b : List ℕ) → b ≡ place_image (read_place b) → place_fits c (read_place b) ≡ true → place_good c b ≡ true
 unfolding place_good read_place
 place_good_lem c b e fits = go (eqb (byte b used_at) 0) e fits
   where
-    go : (z : Bool) → b ≡ place_image (cond z none (some (read_pending b))) → place_fits c (cond z none (some (read_pending b))) ≡ true → cond z (all_zero b) (used_good c b) ≡ true
+    go : (z : Bool) → b ≡ place_image (cond z None (Some (read_pending b))) → place_fits c (cond z None (Some (read_pending b))) ≡ true → cond z (all_zero b) (used_good c b) ≡ true
     go true e' f = free_good b e'
     go false e' f = used_good_lem c b e' f
 
@@ -80,7 +80,7 @@ place_image_lem : (c : ℕ) (b : List ℕ) → length b ≡ place_bytes → plac
 unfolding place_good read_place
 place_image_lem c b size h = go (eqb (byte b used_at) 0) h
   where
-    go : (z : Bool) → cond z (all_zero b) (used_good c b) ≡ true → (b ≡ place_image (cond z none (some (read_pending b)))) × (place_fits c (cond z none (some (read_pending b))) ≡ true)
+    go : (z : Bool) → cond z (all_zero b) (used_good c b) ≡ true → (b ≡ place_image (cond z None (Some (read_pending b)))) × (place_fits c (cond z None (Some (read_pending b))) ≡ true)
     go true g = (free_image b size g, refl)
     go false g = used_image c b g
 
@@ -179,10 +179,10 @@ header_of a h =
     let gap₂ = eqb (byte a 19) 0 in
     let rest₁ = all_zero (span a (accept_list_at + 2 * byte a accept_count_at) propose_list_at) in
     let rest₂ = all_zero (span a (propose_list_at + 2 * byte a propose_count_at) header_bytes) in
-    let some₁ = none_zero (entries a accept_list_at (byte a accept_count_at)) in
-    let some₂ = none_zero (entries a propose_list_at (byte a propose_count_at)) in
-    let p₇ = and_true (acceptFew && proposeFew && gap₁ && gap₂ && rest₁ && rest₂ && some₁) some₂ h in
-    let p₆ = and_true (acceptFew && proposeFew && gap₁ && gap₂ && rest₁ && rest₂) some₁ p₇.0 in
+    let Some₁ = none_zero (entries a accept_list_at (byte a accept_count_at)) in
+    let Some₂ = none_zero (entries a propose_list_at (byte a propose_count_at)) in
+    let p₇ = and_true (acceptFew && proposeFew && gap₁ && gap₂ && rest₁ && rest₂ && Some₁) Some₂ h in
+    let p₆ = and_true (acceptFew && proposeFew && gap₁ && gap₂ && rest₁ && rest₂) Some₁ p₇.0 in
     let p₅ = and_true (acceptFew && proposeFew && gap₁ && gap₂ && rest₁) rest₂ p₆.0 in
     let p₄ = and_true (acceptFew && proposeFew && gap₁ && gap₂) rest₁ p₅.0 in
     let p₃ = and_true (acceptFew && proposeFew && gap₁) gap₂ p₄.0 in

@@ -3,7 +3,7 @@
 use Rattle.std.specs.Prelude.{◌≡◌, refl, true, false, not, ◌&&◌, List, ℕ, ◌≤◌, eqb, leb, length}
 use Rattle.std.proofs.Common.{sym, ◌∙◌, leb-true}
 use Rattle.std.proofs.Math.Bool as Booleans
-use Rattle.std.proofs.Math.Option.{Option, none, some}
+use Rattle.std.specs.Prelude.{Option, None, Some}
 use Rattle.leaf_fields.specs.Laws.{and_true}
 use Rattle.messages.specs.Message.{Value, Request}
 use Rattle.messages.specs.Limits.{key_most, value_most, list_most, option_fits, request_fits, none_zero, list_fits}
@@ -34,8 +34,8 @@ module _ (b : List ℕ) (f : Front) (taken : TakenFrom b f) where
 -- ---- the sizes
 
 option_fits_lem : (v : Option Value) → option_fits v ≡ leb (length (bytes_of v)) value_most
-option_fits_lem none = refl
-option_fits_lem (some v) = refl
+option_fits_lem None = refl
+option_fits_lem (Some v) = refl
 
 request_fits_lem : (r : Request) → request_fits r ≡ (leb (length (key_of r)) key_most && leb (length (bytes_of (first_value r))) value_most && leb (length (bytes_of (second_value r))) value_most)
 request_fits_lem (Request.Get k) = simp Booleans.and-true

@@ -4,7 +4,7 @@
 mod entries;
 
 ghost use Rattle.std.specs.Prelude.{◌≡◌, true, ◌≤◌, length};
-ghost use Rattle.std.proofs.Math.Option.{some};
+ghost use Rattle.std.specs.Prelude.{Some};
 ghost use Rattle.leaf_fields.specs.Fields.{same, byte};
 ghost use Rattle.proposer_place.specs.Area.{
   header_bytes,
@@ -91,7 +91,7 @@ fn sizes_fit(b: &[u8], f: Front) -> bool
 // What is read of a place and written again is the same bytes.
 fn same_again(b: &[u8], f: Front) -> bool
     requires { (TakenFrom b.now f) × (sizes_fit (read_pending b.now) ≡ true) }
-    ensures { result ≡ same b.now (place_image (some (read_pending b.now))) }
+    ensures { result ≡ same b.now (place_image (Some (read_pending b.now))) }
 {
     let mut written = [0u8; PLACE];
     let waited = WAITED + 2 * f.waiting_for;

@@ -1,7 +1,7 @@
 -- The proposer's lent area, byte by byte: the image of a state, the state that an area is read as, and which areas are images of a state that may be lent.
 -- Assumes nothing.
 use Rattle.std.specs.Prelude.{Bool, true, false, not, cond, ◌&&◌, List, [], ◌∷◌, ◌++◌, ℕ, zero, suc, ◌+◌, ◌*◌, eqb, leb, length, replicate}
-use Rattle.std.proofs.Math.Option.{Option, none, some}
+use Rattle.std.specs.Prelude.{Option, None, Some}
 use Rattle.leaf_fields.specs.Fields.{from_le, to_le, part, byte, same, padded}
 use Rattle.messages.specs.declared.Ballot.{Ballot}
 use Rattle.messages.specs.Message.{Key, Value, Request}
@@ -141,16 +141,16 @@ area_bytes n = header_bytes + place_bytes * n
 
 -- a `Set`'s value, a `Cas`'s old one
 abbrev pub first_value : Request → Option Value
-first_value (Request.Get k) = none
-first_value (Request.Del k) = none
-first_value (Request.Set k v) = some v
+first_value (Request.Get k) = None
+first_value (Request.Del k) = None
+first_value (Request.Set k v) = Some v
 first_value (Request.Cas k old new) = old
 
 -- a `Cas`'s new one
 abbrev pub second_value : Request → Option Value
-second_value (Request.Get k) = none
-second_value (Request.Del k) = none
-second_value (Request.Set k v) = none
+second_value (Request.Get k) = None
+second_value (Request.Del k) = None
+second_value (Request.Set k v) = None
 second_value (Request.Cas k old new) = new
 
 abbrev pub kind_byte : Request → ℕ
@@ -168,8 +168,8 @@ flag_byte true = 1
 flag_byte false = 0
 
 abbrev pub mark_byte : Option Value → ℕ
-mark_byte none = 0
-mark_byte (some v) = 1
+mark_byte None = 0
+mark_byte (Some v) = 1
 
 -- ---- writing
 
@@ -208,8 +208,8 @@ place_rest p =
 
 -- a free place is all zeros
 unfoldable pub place_image : Option Pending → List ℕ
-place_image none = replicate place_bytes 0
-place_image (some p) = place_front p ++ place_rest p
+place_image None = replicate place_bytes 0
+place_image (Some p) = place_front p ++ place_rest p
 
 unfoldable pub places_image : List (Option Pending) → List ℕ
 places_image [] = []
@@ -232,7 +232,7 @@ phase_from n = cond (eqb n 1) Propose Accept
 
 -- a value by its mark
 abbrev pub value_from : ℕ → Value → Option Value
-value_from mark v = cond (eqb mark 0) none (some v)
+value_from mark v = cond (eqb mark 0) None (Some v)
 
 abbrev pub request_from : ℕ → Key → Option Value → Option Value → Request
 request_from kind k v w =
@@ -276,7 +276,7 @@ read_pending b = record {
 }
 
 unfoldable pub read_place : List ℕ → Option Pending
-read_place b = cond (eqb (byte b used_at) 0) none (some (read_pending b))
+read_place b = cond (eqb (byte b used_at) 0) None (Some (read_pending b))
 
 -- n places, from `at` on
 unfoldable pub read_places : List ℕ → ℕ → ℕ → List (Option Pending)
@@ -307,8 +307,8 @@ all_listed (x ∷ xs) l = listed x l && all_listed xs l
 
 -- "promised ballot 0 has no value"
 abbrev pub promise_fits : Ballot → Option Value → Bool
-promise_fits b none = true
-promise_fits b (some v) = not (eqb b.0 0)
+promise_fits b None = true
+promise_fits b (Some v) = not (eqb b.0 0)
 
 -- "sizes are within limits"; no client is address 0
 unfoldable pub sizes_fit : Pending → Bool
@@ -327,13 +327,13 @@ pending_fits c p =
 
 unfoldable pub places_fit : ℕ → List (Option Pending) → Bool
 places_fit c [] = true
-places_fit c (none ∷ l) = places_fit c l
-places_fit c (some p ∷ l) = pending_fits c p && places_fit c l
+places_fit c (None ∷ l) = places_fit c l
+places_fit c (Some p ∷ l) = pending_fits c p && places_fit c l
 
 unfoldable pub ballots_of : List (Option Pending) → List ℕ
 ballots_of [] = []
-ballots_of (none ∷ l) = ballots_of l
-ballots_of (some p ∷ l) = p.ballot.0 ∷ ballots_of l
+ballots_of (None ∷ l) = ballots_of l
+ballots_of (Some p ∷ l) = p.ballot.0 ∷ ballots_of l
 
 -- "In a state that may be lent, pending ballots are distinct and from 1 to the counter; sizes are within limits; each answerer stands in the waited-for list and answered once; promised ballot 0 has no value."
 unfoldable pub may_be_lent : Proposer → Bool

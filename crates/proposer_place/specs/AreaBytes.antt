@@ -1,7 +1,7 @@
 -- The image of a lawful state is a row of bytes, as an area is.
 -- Assumes nothing.
 use Rattle.std.specs.Prelude.{Bool, true, false, List, [], ◌∷◌, ◌++◌, ℕ, suc, ◌-◌, ◌<◌, length, replicate}
-use Rattle.std.proofs.Math.Option.{Option, none, some}
+use Rattle.std.specs.Prelude.{Option, None, Some}
 use Rattle.std.proofs.Common.{arith, lit<}
 use Rattle.leaf_fields.specs.Fields.{to_le, Bytes, padded}
 use Rattle.messages.specs.Message.{Value, Request}
@@ -38,8 +38,8 @@ flag_small true = lit< tt
 flag_small false = lit< tt
 
 mark_small : (v : Option Value) → mark_byte v < 256
-mark_small none = lit< tt
-mark_small (some v) = lit< tt
+mark_small None = lit< tt
+mark_small (Some v) = lit< tt
 
 kind_small : (r : Request) → kind_byte r < 256
 kind_small (Request.Get k) = lit< tt
@@ -84,8 +84,8 @@ module _ (p : Pending) (ok : Lawful p) where
 
 pub bytes_place : (q : Option Pending) → LawfulPlace q → Bytes (place_image q)
 unfolding place_image
-bytes_place none ok = bytes_zeros place_bytes
-bytes_place (some p) ok = bytes_append (place_front p) (place_rest p) (bytes_place_front p ok) (bytes_place_rest p ok)
+bytes_place None ok = bytes_zeros place_bytes
+bytes_place (Some p) ok = bytes_append (place_front p) (place_rest p) (bytes_place_front p ok) (bytes_place_rest p ok)
 
 pub bytes_places : (l : List (Option Pending)) → LawfulPlaces l → Bytes (places_image l)
 unfolding places_image LawfulPlaces

@@ -3,7 +3,7 @@
 use Rattle.std.specs.Prelude.{◌≡◌, Bool, true, false, ◌&&◌, List, [], ◌∷◌, ◌++◌, ℕ, suc, ◌+◌, ◌*◌, ◌^◌, ◌≤◌, ◌<◌, eqb, length, get_or, drop}
 use Rattle.std.proofs.Math.Path.{refl}
 use Rattle.std.proofs.Common.{sym, ap, ◌∙◌, append-nil, arith}
-use Rattle.std.proofs.Math.Option.{Option, none, some}
+use Rattle.std.specs.Prelude.{Option, None, Some}
 use borrow.Author.Tests.{eq-eqb, le-leb}
 use Rattle.std.proofs.Math.ListN.{length-append}
 use Rattle.std.proofs.lemmas.List.{length-replicate}
@@ -42,11 +42,11 @@ pub record Lawful (p : Pending) : Type 0 where
   pub noes : ShortList p.nacks_from
 
 abbrev pub LawfulPlace : Option Pending → Type 0
-LawfulPlace none = Unit
-LawfulPlace (some p) = Lawful p
+LawfulPlace None = Unit
+LawfulPlace (Some p) = Lawful p
 
 unfoldable pub LawfulPlaces : List (Option Pending) → Type 0
-LawfulPlaces l = (i : ℕ) → LawfulPlace (get_or l i none)
+LawfulPlaces l = (i : ℕ) → LawfulPlace (get_or l i None)
 
 pub record LawfulState (s : Proposer) (n : ℕ) : Type 0 where
   pub counter_fits : s.counter < 256 ^ 8
@@ -67,8 +67,8 @@ flag_back true = refl
 flag_back false = refl
 
 value_back : (v : Option Value) → value_from (mark_byte v) (bytes_of v) ≡ v
-value_back none = refl
-value_back (some v) = refl
+value_back None = refl
+value_back (Some v) = refl
 
 request_back : (r : Request) → request_from (kind_byte r) (key_of r) (first_value r) (second_value r) ≡ r
 request_back (Request.Get k) = refl
@@ -80,7 +80,7 @@ request_back (Request.Cas k old new) = refl
 
 module _ (p : Pending) (ok : Lawful p) where
   abbrev image : List ℕ
-  image = place_image (some p)
+  image = place_image (Some p)
 
   abbrev key_row : List ℕ
   key_row = padded key_most (key_of p.req)
@@ -271,13 +271,13 @@ module _ (p : Pending) (ok : Lawful p) where
 
 pub length_place : (q : Option Pending) → LawfulPlace q → length (place_image q) ≡ place_bytes
 unfolding place_image
-length_place none ok = length-replicate {A = ℕ} place_bytes 0
-length_place (some p) ok = length_used p ok
+length_place None ok = length-replicate {A = ℕ} place_bytes 0
+length_place (Some p) ok = length_used p ok
 
 pub read_written_place : (q : Option Pending) → LawfulPlace q → read_place (place_image q) ≡ q
 unfolding read_place place_image
-read_written_place none ok = refl
-read_written_place (some p) ok = rw (used_there p ok, read_pending_lem p ok)
+read_written_place None ok = refl
+read_written_place (Some p) ok = rw (used_there p ok, read_pending_lem p ok)
 
 -- ---- all places
 

@@ -2,7 +2,7 @@
 -- Assumes nothing.
 use Rattle.std.specs.Prelude.{◌≡◌, refl, Bool, true, false, not, cond, ◌&&◌, List, [], ◌∷◌, ℕ, zero, suc, ◌+◌, ◌^◌, ◌≤◌, ◌<◌, eqb, leb, length, take, drop}
 use Rattle.std.proofs.Common.{get_or, sym, ◌∙◌, pow-suc, arith, leb-true, lit<}
-use Rattle.std.proofs.Math.Option.{Option, none, some}
+use Rattle.std.specs.Prelude.{Option, None, Some}
 use Rattle.leaf_fields.specs.Fields.{from_le, part, byte, same, Bytes}
 use Rattle.leaf_fields.specs.Laws.{and_true, bytes_drop, bytes_part}
 use Rattle.messages.specs.Message.{Key, Value, Request}
@@ -44,7 +44,7 @@ bytes_nothing = λ i. lit< tt
 bytes_value : (mark : ℕ) (v : Value) → Bytes v → Bytes (bytes_of (value_from mark v))
 bytes_value mark v h = go (eqb mark 0)
   where
-    go : (z : Bool) → Bytes (bytes_of (cond z none (some v)))
+    go : (z : Bool) → Bytes (bytes_of (cond z None (Some v)))
     go true = bytes_nothing
     go false = h
 
@@ -69,7 +69,7 @@ short_request (Request.Get k) h = (short_key k h, omega arith, omega arith)
 short_request (Request.Del k) h = (short_key k h, omega arith, omega arith)
 short_request (Request.Set k v) h =
     let parts = and_true (key_fits k) (value_fits v) h in
-    (short_key k parts.0, short_value (some v) parts.1, omega arith)
+    (short_key k parts.0, short_value (Some v) parts.1, omega arith)
 short_request (Request.Cas k old new) h =
     let parts = and_true (key_fits k && option_fits old) (option_fits new) h in
     let front = and_true (key_fits k) (option_fits old) parts.0 in
@@ -145,7 +145,7 @@ lawful_place : (c : ℕ) (b : List ℕ) (l : List (Option Pending)) → Bytes b 
 unfolding read_place places_fit
 lawful_place c b l h fits = go (eqb (byte b used_at) 0) fits
   where
-    go : (z : Bool) → places_fit c (cond z none (some (read_pending b)) ∷ l) ≡ true → LawfulPlace (cond z none (some (read_pending b))) × (places_fit c l ≡ true)
+    go : (z : Bool) → places_fit c (cond z None (Some (read_pending b)) ∷ l) ≡ true → LawfulPlace (cond z None (Some (read_pending b))) × (places_fit c l ≡ true)
     go true fit = (tt, fit)
     go false fit =
         let parts = and_true (pending_fits c (read_pending b)) (places_fit c l) fit in
@@ -156,7 +156,7 @@ unfolding read_places LawfulPlaces
 lawful_places c a at zero h fits = λ i. tt
 lawful_places c a at (suc n) h fits =
     let parts = lawful_place c (part a at place_bytes) (read_places a (at + place_bytes) n) (bytes_part a at place_bytes h) fits in
-    λ i. elim i as (λ z. LawfulPlace (get_or (read_places a at (suc n)) z none)) [ zero ↦ parts.0 | suc j ↦ lawful_places c a (at + place_bytes) n h parts.1 j ]
+    λ i. elim i as (λ z. LawfulPlace (get_or (read_places a at (suc n)) z None)) [ zero ↦ parts.0 | suc j ↦ lawful_places c a (at + place_bytes) n h parts.1 j ]
 
 pub length_read : (a : List ℕ) (at n : ℕ) → length (read_places a at n) ≡ n
 unfolding read_places

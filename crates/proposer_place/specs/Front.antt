@@ -1,7 +1,7 @@
 -- The front of a place as a struct by value: what it says of a pending request, and its bytes. Whole places as rows.
 -- Assumes nothing.
 use Rattle.std.specs.Prelude.{◌≡◌, true, List, [], ◌∷◌, ◌++◌, ℕ, ◌+◌, ◌<◌, length}
-use Rattle.std.proofs.Math.Option.{some}
+use Rattle.std.specs.Prelude.{Some}
 use Rattle.leaf_fields.specs.Fields.{to_le, padded}
 use Rattle.messages.specs.declared.OptionValue.{OptionValue}
 use Rattle.messages.specs.declared.Req.{Req}
@@ -174,5 +174,5 @@ pub record Small (f : Front) : Type 0 where
 
 -- a place that holds a pending request, as its image
 pub record Used (b : List ℕ) : Type 0 where
-  pub image : b ≡ place_image (some (read_pending b))
+  pub image : b ≡ place_image (Some (read_pending b))
   pub lawful : Lawful (read_pending b)

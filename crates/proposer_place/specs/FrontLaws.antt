@@ -3,7 +3,7 @@
 use Rattle.std.specs.Prelude.{◌≡◌, refl, Bool, true, false, cond, List, ℕ, ◌+◌, ◌-◌, ◌<◌, min, drop}
 use Rattle.std.proofs.Math.Path.{ap}
 use Rattle.std.proofs.Common.{◌∙◌, arith, length-take, length-drop}
-use Rattle.std.proofs.Math.Option.{Option, none, some}
+use Rattle.std.specs.Prelude.{Option, None, Some}
 use Rattle.std.proofs.Math.Dec.{eqb}
 use Rattle.std.proofs.Math.ListN.{length}
 use Rattle.leaf_fields.specs.Fields.{to_le, part, byte}
@@ -24,8 +24,8 @@ phase_same Propose = refl
 phase_same Accept = refl
 
 mark_same : (v : Option Value) → mark_code (marked v) ≡ mark_byte v
-mark_same none = refl
-mark_same (some v) = refl
+mark_same None = refl
+mark_same (Some v) = refl
 
 kind_same : (r : Request) → kind_code (request_rpc r) ≡ kind_byte r
 kind_same (Request.Get k) = refl
@@ -67,14 +67,14 @@ length-front_bytes f = refl
 value_mark : (mark : ℕ) (v : Value) → marked (value_from mark v) ≡ cond (eqb mark 0) OptionValue.None OptionValue.Some
 value_mark mark v = go (eqb mark 0)
   where
-    go : (z : Bool) → marked (cond z none (some v)) ≡ cond z OptionValue.None OptionValue.Some
+    go : (z : Bool) → marked (cond z None (Some v)) ≡ cond z OptionValue.None OptionValue.Some
     go true = refl
     go false = refl
 
 value-length : (mark n : ℕ) (v : Value) → length v ≡ n → length (bytes_of (value_from mark v)) ≡ cond (eqb mark 0) 0 n
 value-length mark n v e = go (eqb mark 0)
   where
-    go : (z : Bool) → length (bytes_of (cond z none (some v))) ≡ cond z 0 n
+    go : (z : Bool) → length (bytes_of (cond z None (Some v))) ≡ cond z 0 n
     go true = refl
     go false = e
 

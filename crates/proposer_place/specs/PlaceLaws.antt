@@ -4,7 +4,7 @@ use Rattle.std.specs.Prelude.{◌≡◌, Bool, true, ℕ, zero, suc, ◌+◌, �
 use Rattle.std.proofs.Math.Path.{sym, ap}
 use Rattle.std.proofs.Common.{◌∙◌, arith, lit<, length-append, length-set, take_at, drop_at, drop-drop}
 use mathlib.Core.List.{List, [], ◌∷◌, ◌++◌, append_assoc}
-use Rattle.std.proofs.Math.Option.{Option, none, some}
+use Rattle.std.specs.Prelude.{Option, None, Some}
 use Rattle.std.proofs.lemmas.List.Edits.{sets}
 use Rattle.leaf_fields.specs.Stores.{sets_left, sets_right, sets_whole}
 use Rattle.leaf_fields.specs.Fields.{to_le, part}
@@ -35,7 +35,7 @@ places_set (x ∷ l) (suc i) q h ok okq =
     sym (sets_right (place_image x) (places_image l) (place_image q) (place_bytes * suc i) (place_bytes * i) (omega (arith, length_place x (ok 0)))
     ∙ ap (λ (r : List ℕ). place_image x ++ r) (sym (places_set l i q (omega (arith, h)) (λ k. ok (suc k)) okq)))
 
-pub places_part : (l : List (Option Pending)) (i : ℕ) → i < length l → LawfulPlaces l → part (places_image l) (place_bytes * i) place_bytes ≡ place_image (get_or l i none)
+pub places_part : (l : List (Option Pending)) (i : ℕ) → i < length l → LawfulPlaces l → part (places_image l) (place_bytes * i) place_bytes ≡ place_image (get_or l i None)
 unfolding places_image LawfulPlaces
 places_part [] i h ok = absurd (omega (arith, h))
 places_part (x ∷ l) zero h ok = take_at (place_image x) (places_image l) place_bytes (length_place x (ok 0))
@@ -90,7 +90,7 @@ module _ (s : Proposer) (n : ℕ) (ok : LawfulState s n) where
       ∙ sym (header_places (set s.places i q))
 
   -- one place read
-  pub area_part : (i : ℕ) → i < n → part (area_image s) (header_bytes + place_bytes * i) place_bytes ≡ place_image (get_or s.places i none)
+  pub area_part : (i : ℕ) → i < n → part (area_image s) (header_bytes + place_bytes * i) place_bytes ≡ place_image (get_or s.places i None)
   area_part i h =
       ap (λ (r : List ℕ). part r (header_bytes + place_bytes * i) place_bytes) (header_places s.places)
       ∙ ap (take place_bytes) (sym (drop-drop (place_bytes * i) header_bytes (header ++ places_image s.places))
@@ -114,8 +114,8 @@ lawful_counter s n c ok h =
 set_lawful : (l : List (Option Pending)) (i : ℕ) (q : Option Pending) → LawfulPlaces l → LawfulPlace q → LawfulPlaces (set l i q)
 unfolding LawfulPlaces
 set_lawful [] i q ok okq = ok
-set_lawful (x ∷ l) zero q ok okq = λ k. elim k as (λ z. LawfulPlace (get_or (q ∷ l) z none)) [ zero ↦ okq | suc j ↦ ok (suc j) ]
-set_lawful (x ∷ l) (suc i) q ok okq = λ k. elim k as (λ z. LawfulPlace (get_or (x ∷ set l i q) z none)) [ zero ↦ ok 0 | suc j ↦ set_lawful l i q (λ m. ok (suc m)) okq j ]
+set_lawful (x ∷ l) zero q ok okq = λ k. elim k as (λ z. LawfulPlace (get_or (q ∷ l) z None)) [ zero ↦ okq | suc j ↦ ok (suc j) ]
+set_lawful (x ∷ l) (suc i) q ok okq = λ k. elim k as (λ z. LawfulPlace (get_or (x ∷ set l i q) z None)) [ zero ↦ ok 0 | suc j ↦ set_lawful l i q (λ m. ok (suc m)) okq j ]
 
 pub lawful_place_set : (s : Proposer) (n i : ℕ) (q : Option Pending) → LawfulState s n → LawfulPlace q → LawfulState (with_places s (set s.places i q)) n
 lawful_place_set s n i q ok okq =
@@ -234,11 +234,11 @@ lawful_again p ok b l high short =
 -- ---- what a place holds, by its lengths
 
 module _ (p : Pending) (ok : Lawful p) where
-  pub key_part : part (place_image (some p)) key_start (length (key_of p.req)) ≡ key_of p.req
-  key_part = content_there (place_image (some p)) key_start key_most (key_of p.req) _ (key_there p ok)
+  pub key_part : part (place_image (Some p)) key_start (length (key_of p.req)) ≡ key_of p.req
+  key_part = content_there (place_image (Some p)) key_start key_most (key_of p.req) _ (key_there p ok)
 
-  pub values_part : part (place_image (some p)) values_at (length (values_of p.req)) ≡ values_of p.req
-  values_part = content_there (place_image (some p)) values_at values_bytes (values_of p.req) _ (values_there p ok)
+  pub values_part : part (place_image (Some p)) values_at (length (values_of p.req)) ≡ values_of p.req
+  values_part = content_there (place_image (Some p)) values_at values_bytes (values_of p.req) _ (values_there p ok)
 
-  pub promised_part : part (place_image (some p)) promised_value_at (length (bytes_of p.value)) ≡ bytes_of p.value
-  promised_part = content_there (place_image (some p)) promised_value_at value_most (bytes_of p.value) [] (promised_there p ok)
+  pub promised_part : part (place_image (Some p)) promised_value_at (length (bytes_of p.value)) ≡ bytes_of p.value
+  promised_part = content_there (place_image (Some p)) promised_value_at value_most (bytes_of p.value) [] (promised_there p ok)

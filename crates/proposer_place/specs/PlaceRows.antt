@@ -4,7 +4,7 @@ use Rattle.std.specs.Prelude.{◌≡◌, refl}
 use Rattle.std.proofs.Math.Path.{sym, ap}
 use Rattle.std.proofs.Common.{◌∙◌, arith, length-append}
 use mathlib.Core.List.{List, [], ◌∷◌, ◌++◌, append_assoc, append-nil}
-use Rattle.std.proofs.Math.Option.{Option, some}
+use Rattle.std.specs.Prelude.{Option, Some}
 use Prim.Native.Nat.{ℕ, ◌+◌, ◌-◌, ◌*◌, ◌≤◌, ◌<◌}
 use borrow.Rule.Slice.PartMut.{put_mid}
 use Rattle.std.proofs.Math.ListN.{length, replicate}
@@ -44,11 +44,11 @@ pub record Sized (f w y n k v p : List ℕ) : Type 0 where
   pub promised : length p ≡ value_most
 
 -- the rows of an image
-pub image_rows : (p : Pending) → place_image (some p) ≡ full_rows (place_front p) (list_row p.waiting_for) (list_row p.acks_from) (list_row p.nacks_from) (padded key_most (key_of p.req)) (padded values_bytes (values_of p.req)) (padded value_most (bytes_of p.value))
+pub image_rows : (p : Pending) → place_image (Some p) ≡ full_rows (place_front p) (list_row p.waiting_for) (list_row p.acks_from) (list_row p.nacks_from) (padded key_most (key_of p.req)) (padded values_bytes (values_of p.req)) (padded value_most (bytes_of p.value))
 unfolding place_image place_rest place_values full_rows
 image_rows p = refl
 
-pub image_place_rows : (p : Pending) → place_image (some p) ≡ place_rows (place_front p) (entry_bytes p.waiting_for) (entry_bytes p.acks_from) (entry_bytes p.nacks_from) (key_of p.req) (values_of p.req) (bytes_of p.value)
+pub image_place_rows : (p : Pending) → place_image (Some p) ≡ place_rows (place_front p) (entry_bytes p.waiting_for) (entry_bytes p.acks_from) (entry_bytes p.nacks_from) (key_of p.req) (values_of p.req) (bytes_of p.value)
 unfolding place_image place_rest place_values list_row place_rows
 image_place_rows p = refl
 
@@ -235,7 +235,7 @@ module _ (p : Pending) (ok : Lawful p) where
   size : Sized f w y n k v promised_row
   size = image_sized p ok
 
-  pub no_added : (from : Address) → length p.nacks_from < list_most → sets (sets (place_image (some p)) (no_at + 2 * length p.nacks_from) (to_le 2 from.0)) 0 (place_front (with_no p from)) ≡ place_image (some (with_no p from))
+  pub no_added : (from : Address) → length p.nacks_from < list_most → sets (sets (place_image (Some p)) (no_at + 2 * length p.nacks_from) (to_le 2 from.0)) 0 (place_front (with_no p from)) ≡ place_image (Some (with_no p from))
   no_added from few =
       let at = no_at + 2 * length p.nacks_from in
       let g = place_front (with_no p from) in
@@ -250,7 +250,7 @@ module _ (p : Pending) (ok : Lawful p) where
       ∙ sym (image_rows (with_no p from))
 
   -- the list of who said yes, with one more
-  yes_row : (from : Address) → length p.acks_from < list_most → sets (place_image (some p)) (yes_at + 2 * length p.acks_from) (to_le 2 from.0) ≡ full_rows f w (list_row (p.acks_from ++ (from.0 ∷ []))) n k v promised_row
+  yes_row : (from : Address) → length p.acks_from < list_most → sets (place_image (Some p)) (yes_at + 2 * length p.acks_from) (to_le 2 from.0) ≡ full_rows f w (list_row (p.acks_from ++ (from.0 ∷ []))) n k v promised_row
   yes_row from few =
       let at = yes_at + 2 * length p.acks_from in
       ap (λ (r : List ℕ). sets r at (to_le 2 from.0)) (image_rows p)
@@ -262,14 +262,14 @@ module _ (p : Pending) (ok : Lawful p) where
       let ly : length (list_row (p.acks_from ++ (from.0 ∷ []))) ≡ list_bytes = length_list (p.acks_from ++ (from.0 ∷ [])) (simp length-append (omega arith)) in
       record { front = size.front; waited = size.waited; yeses = ly; noes = size.noes; key = size.key; values = size.values; promised = size.promised }
 
-  pub yes_added : (from : Address) → length p.acks_from < list_most → sets (sets (place_image (some p)) (yes_at + 2 * length p.acks_from) (to_le 2 from.0)) 0 (place_front (with_yes p from p.promised p.value)) ≡ place_image (some (with_yes p from p.promised p.value))
+  pub yes_added : (from : Address) → length p.acks_from < list_most → sets (sets (place_image (Some p)) (yes_at + 2 * length p.acks_from) (to_le 2 from.0)) 0 (place_front (with_yes p from p.promised p.value)) ≡ place_image (Some (with_yes p from p.promised p.value))
   yes_added from few =
       let p' = with_yes p from p.promised p.value in
       ap (λ (r : List ℕ). sets r 0 (place_front p')) (yes_row from few)
       ∙ into_front f w (list_row p'.acks_from) n k v promised_row (yes_sized from few) (place_front p') (length-place_front p')
       ∙ sym (image_rows p')
 
-  pub promise_added : (from : Address) (b : Ballot) (o : Option Value) → length p.acks_from < list_most → length (bytes_of o) ≤ value_most → sets (sets (put_mid promised_value_at 256 (sets (place_image (some p)) (yes_at + 2 * length p.acks_from) (to_le 2 from.0)) (replicate 256 0)) promised_value_at (bytes_of o)) 0 (place_front (with_yes p from b o)) ≡ place_image (some (with_yes p from b o))
+  pub promise_added : (from : Address) (b : Ballot) (o : Option Value) → length p.acks_from < list_most → length (bytes_of o) ≤ value_most → sets (sets (put_mid promised_value_at 256 (sets (place_image (Some p)) (yes_at + 2 * length p.acks_from) (to_le 2 from.0)) (replicate 256 0)) promised_value_at (bytes_of o)) 0 (place_front (with_yes p from b o)) ≡ place_image (Some (with_yes p from b o))
   promise_added from b o few short =
       let p' = with_yes p from b o in
       let g = place_front p' in
@@ -299,7 +299,7 @@ module _ (p : Pending) (ok : Lawful p) where
     list_sized : length w' ≡ list_bytes
     list_sized = length_list (entries l 0 m) (omega (arith, entries-length l 0 m))
 
-    pub second_entered : sets (sets (put_mid waited_at 90 (place_image (some p)) (replicate 90 0)) waited_at l) 0 (place_front (second_phase (entries l 0 m) p)) ≡ place_image (some (second_phase (entries l 0 m) p))
+    pub second_entered : sets (sets (put_mid waited_at 90 (place_image (Some p)) (replicate 90 0)) waited_at l) 0 (place_front (second_phase (entries l 0 m) p)) ≡ place_image (Some (second_phase (entries l 0 m) p))
     second_entered =
         let p' = second_phase (entries l 0 m) p in
         let g = place_front p' in
@@ -312,7 +312,7 @@ module _ (p : Pending) (ok : Lawful p) where
         ∙ ap (λ (r : List ℕ). full_rows g w' r r k v promised_row) (sym nobody)
         ∙ sym (image_rows p')
 
-    pub again_entered : (b : Ballot) → sets (sets (put_mid promised_value_at 256 (put_mid waited_at 90 (place_image (some p)) (replicate 90 0)) (replicate 256 0)) waited_at l) 0 (place_front (asked_again b (entries l 0 m) p)) ≡ place_image (some (asked_again b (entries l 0 m) p))
+    pub again_entered : (b : Ballot) → sets (sets (put_mid promised_value_at 256 (put_mid waited_at 90 (place_image (Some p)) (replicate 90 0)) (replicate 256 0)) waited_at l) 0 (place_front (asked_again b (entries l 0 m) p)) ≡ place_image (Some (asked_again b (entries l 0 m) p))
     again_entered b =
         let p' = asked_again b (entries l 0 m) p in
         let g = place_front p' in
@@ -332,7 +332,7 @@ module _ (p : Pending) (ok : Lawful p) where
 -- ---- a used place
 
 pub used_length : (b : List ℕ) → Used b → length b ≡ place_bytes
-used_length b u = ap length u.image ∙ length_place (some (read_pending b)) u.lawful
+used_length b u = ap length u.image ∙ length_place (Some (read_pending b)) u.lawful
 
 -- and after stores into it
 pub used_stored : (b n vs : List ℕ) (at : ℕ) → Used b → n ≡ sets b at vs → length n ≡ place_bytes

@@ -1,6 +1,6 @@
 // The rows of a place: lists, key and values, and what a message changes of them.
 ghost use Rattle.std.specs.Prelude.{◌≡◌, [], ◌++◌, ◌+◌, ◌*◌, ◌≤◌, ◌<◌, length, replicate};
-ghost use Rattle.std.proofs.Math.Option.{some};
+ghost use Rattle.std.specs.Prelude.{Some};
 ghost use Rattle.messages.specs.Limits.{key_most, value_most, list_most};
 ghost use Rattle.messages.specs.Message.{given};
 ghost use Rattle.messages.specs.Answers.{bytes_of, entries};
@@ -53,7 +53,7 @@ pub fn write(
 // One more no.
 pub fn note_no(b: &mut [u8], from: Address)
     requires { (Used b.old) × (length (read_pending b.old).nacks_from < list_most) }
-    ensures { b.new ≡ place_image (some (with_no (read_pending b.old) from)) }
+    ensures { b.new ≡ place_image (Some (with_no (read_pending b.old) from)) }
 {
     let mut f = take(b);
     leaf_fields::put(b, NO + 2 * f.nacks_from, 2, from.0 as u64);
@@ -64,7 +64,7 @@ pub fn note_no(b: &mut [u8], from: Address)
 // One more yes; the promise stays as it was.
 pub fn note_yes(b: &mut [u8], from: Address)
     requires { (Used b.old) × (length (read_pending b.old).acks_from < list_most) }
-    ensures { b.new ≡ place_image (some (with_yes (read_pending b.old) from (read_pending b.old).promised (read_pending b.old).value)) }
+    ensures { b.new ≡ place_image (Some (with_yes (read_pending b.old) from (read_pending b.old).promised (read_pending b.old).value)) }
 {
     let mut f = take(b);
     leaf_fields::put(b, YES + 2 * f.acks_from, 2, from.0 as u64);
@@ -75,7 +75,7 @@ pub fn note_yes(b: &mut [u8], from: Address)
 // One more yes, whose ballot and value are taken over as the highest promised.
 pub fn note_promise(b: &mut [u8], from: Address, ballot: Ballot, mark: OptionValue, value: &[u8])
     requires { (Used b.old) × (length (read_pending b.old).acks_from < list_most) × (length (bytes_of (given mark value.now)) ≤ value_most) }
-    ensures { b.new ≡ place_image (some (with_yes (read_pending b.old) from ballot (given mark value.now))) }
+    ensures { b.new ≡ place_image (Some (with_yes (read_pending b.old) from ballot (given mark value.now))) }
 {
     let f = take(b);
     let bytes = messages::present(mark, value);
@@ -88,7 +88,7 @@ pub fn note_promise(b: &mut [u8], from: Address, ballot: Ballot, mark: OptionVal
 // The second phase: the n entries of the list are waited for, and nobody has answered.
 pub fn second_phase(b: &mut [u8], list: &[u8], n: usize)
     requires { (Used b.old) × (n ≤ list_most) × (length list.now ≡ 2 * n) }
-    ensures { b.new ≡ place_image (some (second_phase (entries list.now 0 n) (read_pending b.old))) }
+    ensures { b.new ≡ place_image (Some (second_phase (entries list.now 0 n) (read_pending b.old))) }
 {
     let f = take(b);
     leaf_fields::clear(&mut b[WAITED..LISTS_END]);
@@ -99,7 +99,7 @@ pub fn second_phase(b: &mut [u8], list: &[u8], n: usize)
 // The request anew at a ballot: the n entries of the list are waited for, and nothing is promised.
 pub fn again(b: &mut [u8], ballot: Ballot, list: &[u8], n: usize)
     requires { (Used b.old) × (n ≤ list_most) × (length list.now ≡ 2 * n) }
-    ensures { b.new ≡ place_image (some (asked_again ballot (entries list.now 0 n) (read_pending b.old))) }
+    ensures { b.new ≡ place_image (Some (asked_again ballot (entries list.now 0 n) (read_pending b.old))) }
 {
     let f = take(b);
     leaf_fields::clear(&mut b[WAITED..LISTS_END]);

@@ -3,7 +3,7 @@
 use Rattle.std.specs.Prelude.{◌≡◌, refl, Bool, true, false, not, cond, List, [], ◌∷◌, ◌++◌, leb, length, get_or, set}
 use Rattle.std.proofs.Common.{sym, subst, ◌∙◌, arith, le-leb}
 use Rattle.std.proofs.Math.Path.{ap}
-use Rattle.std.proofs.Math.Option.{Option, none, some}
+use Rattle.std.specs.Prelude.{Option, None, Some}
 use Prim.Native.Nat.{ℕ, zero, suc, ◌+◌, ◌^◌, ◌<◌, max}
 use Rattle.std.proofs.lemmas.Bool.{not-true, not-false, lt-leb}
 use Rattle.std.proofs.lemmas.List.Edits.{sets}
@@ -35,7 +35,7 @@ use Rattle.proposer_works.specs.Answerers.{more}
 
 -- ---- lists of places
 
-get_set : (l : List (Option Pending)) (i : ℕ) (q : Option Pending) → i < length l → get_or (set l i q) i none ≡ q
+get_set : (l : List (Option Pending)) (i : ℕ) (q : Option Pending) → i < length l → get_or (set l i q) i None ≡ q
 get_set [] i q h = absurd (omega (arith, h))
 get_set (x ∷ l) zero q h = refl
 get_set (x ∷ l) (suc i) q h = get_set l i q (omega (arith, h))
@@ -52,17 +52,17 @@ module _ (a : List ℕ) (n i : ℕ) (q : Pending) (held : Held a n) (within : i 
   s = read_area a n
 
   abbrev noted : Proposer
-  noted = placed s s.counter i (some q)
+  noted = placed s s.counter i (Some q)
 
   noted_lawful : LawfulState noted n
-  noted_lawful = lawful_place_set s n i (some q) held.lawful ok
+  noted_lawful = lawful_place_set s n i (Some q) held.lawful ok
 
-  noted_there : get_or noted.places i none ≡ some q
-  noted_there = get_set s.places i (some q) (rw held.lawful.full within)
+  noted_there : get_or noted.places i None ≡ Some q
+  noted_there = get_set s.places i (Some q) (rw held.lawful.full within)
 
-  module _ (a₁ : List ℕ) (e : a₁ ≡ sets a (place_at i) (place_image (some q))) where
+  module _ (a₁ : List ℕ) (e : a₁ ≡ sets a (place_at i) (place_image (Some q))) where
     noted_image : a₁ ≡ area_image noted
-    noted_image = e ∙ with_place a n held i (some q) within ok
+    noted_image = e ∙ with_place a n held i (Some q) within ok
 
     pub noted_read : read_area a₁ n ≡ noted
     noted_read = ap (λ (r : List ℕ). read_area r n) noted_image ∙ read_written noted n noted_lawful
@@ -142,14 +142,14 @@ module _ (a w : List ℕ) (n i : ℕ) (f : Front) (from : Address) (b : Ballot) 
   replaced : (x : Option Pending) → moved state state.counter (replace_at q.ballot x state.places) ≡ placed state state.counter i x
   replaced x = ap (λ (l : List (Option Pending)). moved state state.counter l) (ap (λ (c : Ballot). replace_at c x state.places) parts.0 ∙ asks.there x)
 
-  module _ (t short : Bool) (ballot : Ballot) (eb : ballot ≡ f.ballot) (et : t ≡ above ballot f.promised) (fine : t ≡ true) (es : short ≡ not (leb (majority_of f.waiting_for) (f.acks_from + 1))) (a₁ : List ℕ) (ea : a₁ ≡ sets a (place_at i) (place_image (some q))) (ok : Lawful q) where
+  module _ (t short : Bool) (ballot : Ballot) (eb : ballot ≡ f.ballot) (et : t ≡ above ballot f.promised) (fine : t ≡ true) (es : short ≡ not (leb (majority_of f.waiting_for) (f.acks_from + 1))) (a₁ : List ℕ) (ea : a₁ ≡ sets a (place_at i) (place_image (Some q))) (ok : Lawful q) where
     pub promise_noted : short ≡ true → Worked w (granting state p from b v) Answer.Nothing a₁ w
     promise_noted few =
         due_none w state promise_due (granted state q) Answer.Nothing a₁ w (rw (allowed t ballot eb et fine))
         (rw (reached_by ∙ not-true _ (sym es ∙ few))
         record {
           answer = refl;
-          area = ea ∙ with_place a n held i (some q) asks.pends.within ok ∙ ap area_image (sym (replaced (some q)));
+          area = ea ∙ with_place a n held i (Some q) asks.pends.within ok ∙ ap area_image (sym (replaced (Some q)));
           written = refl;
         })
 
@@ -163,8 +163,8 @@ module _ (a w : List ℕ) (n i : ℕ) (f : Front) (from : Address) (b : Ballot) 
           answer = work.answer;
           area =
               work.area
-              ∙ ap (λ (l : List (Option Pending)). area_image (moved state state.counter l)) (set_again state.places i (some q) (some (to_accept state q)))
-              ∙ ap area_image (sym (replaced (some (to_accept state q))));
+              ∙ ap (λ (l : List (Option Pending)). area_image (moved state state.counter l)) (set_again state.places i (Some q) (Some (to_accept state q)))
+              ∙ ap area_image (sym (replaced (Some (to_accept state q))));
           written = work.written;
         })
 
@@ -195,18 +195,18 @@ module _ (a w : List ℕ) (n i : ℕ) (f : Front) (h : Header) (from : Address) 
   at_place : (c : ℕ) (x : Option Pending) → moved before c (replace_at asked_one.ballot x before.places) ≡ placed before c i x
   at_place c x = ap (λ (l : List (Option Pending)). moved before c l) (asks.there x)
 
-  pub refusal_noted : (a₁ : List ℕ) → short ≡ true → a₁ ≡ area_image (placed before counter i (some (with_no asked_one from))) → Worked w (rejecting before asked_one from last b v) Answer.Nothing a₁ w
+  pub refusal_noted : (a₁ : List ℕ) → short ≡ true → a₁ ≡ area_image (placed before counter i (Some (with_no asked_one from))) → Worked w (rejecting before asked_one from last b v) Answer.Nothing a₁ w
   refusal_noted a₁ few ea =
       let not_yet : reached (with_no asked_one from).nacks_from asked_one.waiting_for ≡ false = noes_reached ∙ not-true _ (sym es ∙ few) in
       due_none w before ballot_due (rejected before asked_one from last) Answer.Nothing a₁ w (rw not_yet)
       (rw not_yet
       record {
         answer = refl;
-        area = ea ∙ ap (λ (c : ℕ). area_image (placed before c i (some (with_no asked_one from)))) counter_same ∙ ap area_image (sym (at_place (raised before.counter last) (some (with_no asked_one from))));
+        area = ea ∙ ap (λ (c : ℕ). area_image (placed before c i (Some (with_no asked_one from)))) counter_same ∙ ap area_image (sym (at_place (raised before.counter last) (Some (with_no asked_one from))));
         written = refl;
       })
 
-  pub refusal_told : (a₁ : List ℕ) (r : Answer) → short ≡ false → f.retried ≡ true → r ≡ answer_of (to_client asked_one (Reply.Failed (failure_of (Error.ProposalRejected last) []))) → a₁ ≡ area_image (placed before counter i none) → Worked w (rejecting before asked_one from last b v) r a₁ w
+  pub refusal_told : (a₁ : List ℕ) (r : Answer) → short ≡ false → f.retried ≡ true → r ≡ answer_of (to_client asked_one (Reply.Failed (failure_of (Error.ProposalRejected last) []))) → a₁ ≡ area_image (placed before counter i None) → Worked w (rejecting before asked_one from last b v) r a₁ w
   refusal_told a₁ r enough again er ea =
       let now-reached : reached (with_no asked_one from).nacks_from asked_one.waiting_for ≡ true = noes_reached ∙ not-false _ (sym es ∙ enough) in
       let retried : asked_one.retried ≡ true = sym retried_same ∙ again in
@@ -214,7 +214,7 @@ module _ (a w : List ℕ) (n i : ℕ) (f : Front) (h : Header) (from : Address) 
       (rw (now-reached, retried)
       record {
         answer = er;
-        area = ea ∙ ap (λ (c : ℕ). area_image (placed before c i none)) counter_same ∙ ap area_image (sym (at_place (raised before.counter last) none));
+        area = ea ∙ ap (λ (c : ℕ). area_image (placed before c i None)) counter_same ∙ ap area_image (sym (at_place (raised before.counter last) None));
         written = refl;
       })
 

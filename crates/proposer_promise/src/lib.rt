@@ -2,7 +2,7 @@
 #![tactic(auto)]
 
 ghost use Rattle.std.specs.Prelude.{◌≡◌, true, List, ℕ, length};
-ghost use Rattle.std.proofs.Math.Option.{Option};
+ghost use Rattle.std.specs.Prelude.{Option};
 ghost use Rattle.messages.specs.Message.{Value, given, result_of};
 ghost use Rattle.messages.specs.Limits.{option_fits};
 ghost use Rattle.proposer_rules.specs.Rules.{pending_at, on_promise};

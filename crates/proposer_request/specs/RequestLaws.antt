@@ -5,7 +5,7 @@ use Rattle.std.proofs.Math.Path.{refl, sym, ap}
 use Rattle.std.proofs.Common.{◌∙◌, arith, le-leb}
 use Rattle.std.proofs.Math.Bool.{true, false, cond}
 use mathlib.Core.List.{List, [], ◌++◌}
-use Rattle.std.proofs.Math.Option.{Option, none, some}
+use Rattle.std.specs.Prelude.{Option, None, Some}
 use Rattle.std.proofs.lemmas.Bool.{lt-leb}
 use Rattle.std.proofs.Math.ListN.{take}
 use Rattle.std.proofs.Math.Seq.{sets}
@@ -60,7 +60,7 @@ request_key (Req.Cas old new) k v w = refl
 -- ---- a new place
 
 -- a place whose rows are those of a request without answers and promises
-pub new_image : (f : Front) (p : Pending) (waited key values : List ℕ) → f ≡ front_of p → waited ≡ entry_bytes p.waiting_for → p.acks_from ≡ [] → p.nacks_from ≡ [] → key ≡ key_of p.req → values ≡ bytes_of (first_value p.req) ++ bytes_of (second_value p.req) → p.value ≡ none → place_rows (front_bytes f) waited [] [] key values [] ≡ place_image (some p)
+pub new_image : (f : Front) (p : Pending) (waited key values : List ℕ) → f ≡ front_of p → waited ≡ entry_bytes p.waiting_for → p.acks_from ≡ [] → p.nacks_from ≡ [] → key ≡ key_of p.req → values ≡ bytes_of (first_value p.req) ++ bytes_of (second_value p.req) → p.value ≡ None → place_rows (front_bytes f) waited [] [] key values [] ≡ place_image (Some p)
 unfolding place_rows place_image place_rest place_values list_row entry_bytes
 new_image f p waited key values ef ew ea en ek ev ep = rw (ef, front_bytes_lem p, ew, ea, en, ek, ev, ep)
 
@@ -163,7 +163,7 @@ module _ (a w : List ℕ) (n : ℕ) (h : Header) (from : Address) (at id : ℕ) 
       let up : used_up s.counter ≡ false = not_used_up a w n h from at id rq held eh most ne in
       let lawful : Lawful pending = lawful_here hk hv ho hf hi ha (omega (arith, most, ne, counter_here)) in
       let front : f ≡ front_of pending = rw (ef, e1, e2, propose_here, counter_here, request_rpc_lem req key value other, request_key req key value other) in
-      let image : place_rows (front_bytes f) (take (320 + 2 * h.propose - 320) (drop 320 w₁)) [] [] key (first ++ second) [] ≡ place_image (some pending) =
+      let image : place_rows (front_bytes f) (take (320 + 2 * h.propose - 320) (drop 320 w₁)) [] [] key (first ++ second) [] ≡ place_image (Some pending) =
       new_image f pending _ key (first ++ second) front (ap (λ (u : List ℕ). take (320 + 2 * h.propose - 320) (drop 320 u)) ew ∙ waited_here) refl refl (sym (request_key req key value other)) (rw (e1, e2)) refl in
       let asking : Message = Message.ProposeReq (next_ballot s.counter) (key_of rq) in
       let next : h.counter + 1 ≡ s.counter + 1 = ap (λ (c : ℕ). c + 1) counter_here in
@@ -175,8 +175,8 @@ module _ (a w : List ℕ) (n : ℕ) (h : Header) (from : Address) (at id : ℕ) 
         area =
             ea₂
             ∙ ap (λ (u : List ℕ). sets u counter_at (to_le 8 (h.counter + 1))) (ea₁ ∙ ap (λ (u : List ℕ). sets a (place_at i) u) image)
-            ∙ with_both a n held i (h.counter + 1) (some pending) within lawful
-            ∙ ap (λ (c : ℕ). area_image (moved s c (set s.places i (some pending)))) next
+            ∙ with_both a n held i (h.counter + 1) (Some pending) within lawful
+            ∙ ap (λ (c : ℕ). area_image (moved s c (set s.places i (Some pending)))) next
             ∙ ap (λ (l : List (Option Pending)). area_image (moved s (s.counter + 1) l)) (sym (free.taken pending));
         written =
             ew

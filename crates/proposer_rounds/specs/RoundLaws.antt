@@ -5,7 +5,7 @@ use Rattle.std.proofs.Common.{sym, ◌∙◌, arith}
 use Rattle.std.proofs.Math.Path.{ap}
 use Rattle.std.proofs.Math.Bool.{cond}
 use mathlib.Core.List.{List, []}
-use Rattle.std.proofs.Math.Option.{Option, some}
+use Rattle.std.specs.Prelude.{Option, Some}
 use Rattle.std.proofs.Math.Seq.{sets}
 use Rattle.leaf_fields.specs.Fields.{to_le}
 use Rattle.messages.specs.declared.Ballot.{Ballot}
@@ -72,7 +72,7 @@ module _ (a : List ℕ) (n i : ℕ) (f : Front) (held : Held a n) (pends : Pends
       ∙ ap (λ (j : ℕ). entries (entry_bytes s.accept_acceptors) 0 j) accept_here
       ∙ entries_back s.accept_acceptors held.lawful.accept
 
-  pub second_begun : (req : Req) (mark new : OptionValue) (ballot : Ballot) (len : ℕ) (w₁ a₁ : List ℕ) (r : Answer) → req ≡ f.req → mark ≡ f.mark → ballot ≡ f.ballot → new ≡ marked (applied (request_in req values f.first_len) (given mark promised)).value → len ≡ length (bytes_of (applied (request_in req values f.first_len) (given mark promised)).value) → w₁ ≡ sent_in w (bytes_of (applied (request_in req values f.first_len) (given mark promised)).value) key accept_list → a₁ ≡ sets a (place_at i) (place_image (some (second_phase (entries (take (320 + 2 * h.accept - 320) (drop 320 w₁)) 0 h.accept) p))) → r ≡ cond (eqb h.accept 0) Answer.Nothing (Answer.Broadcast (Rpc.AcceptReq ballot new) h.accept f.key_len len) → Worked w (accepting s i p) r a₁ w₁
+  pub second_begun : (req : Req) (mark new : OptionValue) (ballot : Ballot) (len : ℕ) (w₁ a₁ : List ℕ) (r : Answer) → req ≡ f.req → mark ≡ f.mark → ballot ≡ f.ballot → new ≡ marked (applied (request_in req values f.first_len) (given mark promised)).value → len ≡ length (bytes_of (applied (request_in req values f.first_len) (given mark promised)).value) → w₁ ≡ sent_in w (bytes_of (applied (request_in req values f.first_len) (given mark promised)).value) key accept_list → a₁ ≡ sets a (place_at i) (place_image (Some (second_phase (entries (take (320 + 2 * h.accept - 320) (drop 320 w₁)) 0 h.accept) p))) → r ≡ cond (eqb h.accept 0) Answer.Nothing (Answer.Broadcast (Rpc.AcceptReq ballot new) h.accept f.key_len len) → Worked w (accepting s i p) r a₁ w₁
   unfolding front_of
   second_begun req mark new ballot len w₁ a₁ r ereq emark eballot enew elen ew ea er =
       let v : Option Value = (applied p.req p.value).value in
@@ -88,8 +88,8 @@ module _ (a : List ℕ) (n i : ℕ) (f : Front) (held : Held a n) (pends : Pends
         answer = er ∙ sent ∙ sent_answer s.accept_acceptors asking;
         area =
             ea
-            ∙ ap (λ (l : List ℕ). sets a (place_at i) (place_image (some (second_phase l p)))) waited
-            ∙ with_place a n held i (some (second_phase s.accept_acceptors p)) pends.within (lawful_second p lawful s.accept_acceptors held.lawful.accept);
+            ∙ ap (λ (l : List ℕ). sets a (place_at i) (place_image (Some (second_phase l p)))) waited
+            ∙ with_place a n held i (Some (second_phase s.accept_acceptors p)) pends.within (lawful_second p lawful s.accept_acceptors held.lawful.accept);
         written =
             written
             ∙ ap (λ (u : List ℕ). sent_in w (bytes_of v) (key_of p.req) u) accept_list_here
@@ -116,7 +116,7 @@ module _ (a : List ℕ) (n i : ℕ) (f : Front) (held : Held a n) (pends : Pends
       ∙ ap (λ (j : ℕ). entries (entry_bytes s.propose_acceptors) 0 j) propose_here
       ∙ entries_back s.propose_acceptors held.lawful.propose
 
-  pub proposed_again : (counter : ℕ) (w₁ a₁ a₂ : List ℕ) (r : Answer) → counter < 2 ^ 64 - 1 → w₁ ≡ sent_in w [] key propose_list → a₁ ≡ sets a (place_at i) (place_image (some (asked_again (record { 0 = counter + 1 }) (entries (take (320 + 2 * h.propose - 320) (drop 320 w₁)) 0 h.propose) p))) → a₂ ≡ sets a₁ counter_at (to_le 8 (counter + 1)) → r ≡ cond (eqb h.propose 0) Answer.Nothing (Answer.Broadcast (Rpc.ProposeReq (record { 0 = counter + 1 })) h.propose f.key_len 0) → Worked w (retrying s counter i p) r a₂ w₁
+  pub proposed_again : (counter : ℕ) (w₁ a₁ a₂ : List ℕ) (r : Answer) → counter < 2 ^ 64 - 1 → w₁ ≡ sent_in w [] key propose_list → a₁ ≡ sets a (place_at i) (place_image (Some (asked_again (record { 0 = counter + 1 }) (entries (take (320 + 2 * h.propose - 320) (drop 320 w₁)) 0 h.propose) p))) → a₂ ≡ sets a₁ counter_at (to_le 8 (counter + 1)) → r ≡ cond (eqb h.propose 0) Answer.Nothing (Answer.Broadcast (Rpc.ProposeReq (record { 0 = counter + 1 })) h.propose f.key_len 0) → Worked w (retrying s counter i p) r a₂ w₁
   proposed_again counter w₁ a₁ a₂ r most ew ea₁ ea₂ er =
       let asking : Message = Message.ProposeReq (next_ballot counter) (key_of p.req) in
       let sent : cond (eqb h.propose 0) Answer.Nothing (Answer.Broadcast (Rpc.ProposeReq (record { 0 = counter + 1 })) h.propose f.key_len 0) ≡ broadcast_of s.propose_acceptors asking =
@@ -129,8 +129,8 @@ module _ (a : List ℕ) (n i : ℕ) (f : Front) (held : Held a n) (pends : Pends
         area =
             ea₂
             ∙ ap (λ (u : List ℕ). sets u counter_at (to_le 8 (counter + 1)))
-            (ea₁ ∙ ap (λ (l : List ℕ). sets a (place_at i) (place_image (some (asked_again (next_ballot counter) l p)))) waited)
-            ∙ with_both a n held i (counter + 1) (some (asked_again (next_ballot counter) s.propose_acceptors p)) pends.within
+            (ea₁ ∙ ap (λ (l : List ℕ). sets a (place_at i) (place_image (Some (asked_again (next_ballot counter) l p)))) waited)
+            ∙ with_both a n held i (counter + 1) (Some (asked_again (next_ballot counter) s.propose_acceptors p)) pends.within
             (lawful_again p lawful (next_ballot counter) s.propose_acceptors (omega (arith, most)) held.lawful.propose);
         written =
             written

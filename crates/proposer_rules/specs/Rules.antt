@@ -1,7 +1,7 @@
 -- 01's section 'Proposer', on values: what a message or a tick does to a proposer and what it is answered.
 -- Assumes nothing.
 use Rattle.std.specs.Prelude.{Bool, true, false, not, cond, ◌&&◌, ◌||◌, List, [], ◌∷◌, ◌++◌, ℕ, zero, suc, ◌+◌, ◌-◌, ◌/◌, ◌^◌, max, eqb, leb, ltb, length, take, drop}
-use Rattle.std.proofs.Math.Option.{Option, none, some}
+use Rattle.std.specs.Prelude.{Option, None, Some}
 use Rattle.messages.specs.declared.Address.{Address}
 use Rattle.messages.specs.declared.Ballot.{Ballot}
 use Rattle.messages.specs.declared.Req.{Req}
@@ -46,10 +46,10 @@ used_up c = leb counter_most c
 -- ---- the request
 
 abbrev pub same_value : Option Value → Option Value → Bool
-same_value none none = true
-same_value none (some w) = false
-same_value (some v) none = false
-same_value (some v) (some w) = same v w
+same_value None None = true
+same_value None (Some w) = false
+same_value (Some v) None = false
+same_value (Some v) (Some w) = same v w
 
 -- the new value, and whether a compare failed
 pub record Applied : Type 0 where
@@ -59,8 +59,8 @@ pub record Applied : Type 0 where
 -- "`Get` the promised value; `Del` none; `Set` its value; `Cas` the new one if old equals promised (none equals only none), else the promised value, marked failed."
 abbrev pub applied : Request → Option Value → Applied
 applied (Request.Get k) promised = record { value = promised; failed = false }
-applied (Request.Del k) promised = record { value = none; failed = false }
-applied (Request.Set k v) promised = record { value = some v; failed = false }
+applied (Request.Del k) promised = record { value = None; failed = false }
+applied (Request.Set k v) promised = record { value = Some v; failed = false }
 applied (Request.Cas k old new) promised = record { value = cond (same_value old promised) new promised; failed = not (same_value old promised) }
 
 -- a request whose bytes are one row: the value of a `Set`; of a `Cas` the old value's n bytes, then the new value
@@ -80,24 +80,24 @@ abbrev pub is_ballot : Ballot → Pending → Bool
 is_ballot b p = eqb p.ballot.0 b.0
 
 abbrev pub pick_pending : Bool → Pending → Option Pending → Option Pending
-pick_pending true p rest = some p
+pick_pending true p rest = Some p
 pick_pending false p rest = rest
 
 -- the pending request at a ballot
 unfoldable pub pending_at : Ballot → List (Option Pending) → Option Pending
-pending_at b [] = none
-pending_at b (none ∷ l) = pending_at b l
-pending_at b (some p ∷ l) = pick_pending (is_ballot b p) p (pending_at b l)
+pending_at b [] = None
+pending_at b (None ∷ l) = pending_at b l
+pending_at b (Some p ∷ l) = pick_pending (is_ballot b p) p (pending_at b l)
 
 -- the place of the request at a ballot, with other content; none drops it
 unfoldable pub replace_at : Ballot → Option Pending → List (Option Pending) → List (Option Pending)
 replace_at b q [] = []
-replace_at b q (none ∷ l) = none ∷ replace_at b q l
-replace_at b q (some p ∷ l) = cond (is_ballot b p) (q ∷ l) (some p ∷ replace_at b q l)
+replace_at b q (None ∷ l) = None ∷ replace_at b q l
+replace_at b q (Some p ∷ l) = cond (is_ballot b p) (q ∷ l) (Some p ∷ replace_at b q l)
 
 abbrev pub is_free : Option Pending → Bool
-is_free none = true
-is_free (some p) = false
+is_free None = true
+is_free (Some p) = false
 
 -- no place is free
 unfoldable pub no_place : List (Option Pending) → Bool
@@ -107,7 +107,7 @@ no_place (x ∷ l) = not (is_free x) && no_place l
 -- "a new request takes the lowest free place"
 unfoldable pub take_place : Pending → List (Option Pending) → List (Option Pending)
 take_place p [] = []
-take_place p (x ∷ l) = cond (is_free x) (some p ∷ l) (x ∷ take_place p l)
+take_place p (x ∷ l) = cond (is_free x) (Some p ∷ l) (x ∷ take_place p l)
 
 -- ---- outcomes
 
@@ -120,8 +120,8 @@ outcome s t = record { state = s; told = t }
 
 -- "Each sends nothing and leaves state and every lent area byte for byte."
 abbrev pub unless : Option Refusal → Proposer → Outcome → Outcome
-unless (some r) s o = outcome s (refused r)
-unless none s o = o
+unless (Some r) s o = outcome s (refused r)
+unless None s o = o
 
 -- "A list without entries and a row without timeouts are the answer nothing."
 abbrev pub to_each : List ℕ → Message → Told
@@ -217,19 +217,19 @@ abbrev pub rejected : Proposer → Pending → Address → Ballot → Outcome
 rejected s p from last =
     cond (reached (with_no p from).nacks_from p.waiting_for)
     (cond p.retried
-    (outcome (moved s (raised s.counter last) (replace_at p.ballot none s.places)) (to_client p (Reply.Failed (Failure.ProposalRejected last))))
+    (outcome (moved s (raised s.counter last) (replace_at p.ballot None s.places)) (to_client p (Reply.Failed (Failure.ProposalRejected last))))
     (outcome
-    (moved s (raised s.counter last + 1) (replace_at p.ballot (some (asked s (raised s.counter last) p.client p.id p.req p.received_at true)) s.places))
+    (moved s (raised s.counter last + 1) (replace_at p.ballot (Some (asked s (raised s.counter last) p.client p.id p.req p.received_at true)) s.places))
     (proposals s (raised s.counter last) p.req)))
-    (outcome (moved s (raised s.counter last) (replace_at p.ballot (some (with_no p from)) s.places)) nothing)
+    (outcome (moved s (raised s.counter last) (replace_at p.ballot (Some (with_no p from)) s.places)) nothing)
 
 -- "At a majority of yeses go to the second phase .. and send `AcceptReq` with the new value to each entry in order."
 abbrev pub granted : Proposer → Pending → Outcome
 granted s p =
     cond (reached p.acks_from p.waiting_for)
-    (outcome (moved s s.counter (replace_at p.ballot (some (to_accept s p)) s.places))
+    (outcome (moved s s.counter (replace_at p.ballot (Some (to_accept s p)) s.places))
     (to_each s.accept_acceptors (Message.AcceptReq p.ballot (key_of p.req) (applied p.req p.value).value)))
-    (outcome (moved s s.counter (replace_at p.ballot (some p) s.places)) nothing)
+    (outcome (moved s s.counter (replace_at p.ballot (Some p) s.places)) nothing)
 
 abbrev pub promise_work : Proposer → Pending → Address → Ballot → Option Value → Result → Outcome
 promise_work s p from a v Result.Ok = granted s (promised_by p from a v)
@@ -244,8 +244,8 @@ in_first s p Accept from a v res = outcome s nothing
 in_first s p Propose from a v res = unless (first_due (promise_tests s p from res)) s (promise_work s p from a v res)
 
 abbrev pub on_promise : Proposer → Option Pending → Address → Ballot → Option Value → Result → Outcome
-on_promise s none from a v res = outcome s nothing
-on_promise s (some p) from a v res = in_first s p p.phase from a v res
+on_promise s None from a v res = outcome s nothing
+on_promise s (Some p) from a v res = in_first s p p.phase from a v res
 
 -- ---- AcceptRes
 
@@ -270,15 +270,15 @@ acceptance_tests p from res =
 abbrev pub turned_down : Proposer → Pending → Address → Ballot → Outcome
 turned_down s p from last =
     cond (reached (with_no p from).nacks_from p.waiting_for)
-    (outcome (moved s (raised s.counter last) (replace_at p.ballot none s.places)) (to_client p (Reply.Failed (Failure.AcceptRejected last))))
-    (outcome (moved s (raised s.counter last) (replace_at p.ballot (some (with_no p from)) s.places)) nothing)
+    (outcome (moved s (raised s.counter last) (replace_at p.ballot None s.places)) (to_client p (Reply.Failed (Failure.AcceptRejected last))))
+    (outcome (moved s (raised s.counter last) (replace_at p.ballot (Some (with_no p from)) s.places)) nothing)
 
 -- "At a majority of yeses drop and tell the client the new value, or `CasFailed` with the promised value."
 abbrev pub taken : Proposer → Pending → Outcome
 taken s p =
     cond (reached p.acks_from p.waiting_for)
-    (outcome (moved s s.counter (replace_at p.ballot none s.places)) (to_client p (reply_of p.req p.value)))
-    (outcome (moved s s.counter (replace_at p.ballot (some p) s.places)) nothing)
+    (outcome (moved s s.counter (replace_at p.ballot None s.places)) (to_client p (reply_of p.req p.value)))
+    (outcome (moved s s.counter (replace_at p.ballot (Some p) s.places)) nothing)
 
 abbrev pub acceptance_work : Proposer → Pending → Address → Result → Outcome
 acceptance_work s p from Result.Ok = taken s (with_yes p from p.promised p.value)
@@ -288,8 +288,8 @@ acceptance_work s p from (Result.Err (Failure.CasFailed v)) = outcome s nothing
 acceptance_work s p from (Result.Err Failure.Timeout) = outcome s nothing
 
 abbrev pub on_acceptance : Proposer → Option Pending → Address → Result → Outcome
-on_acceptance s none from res = outcome s nothing
-on_acceptance s (some p) from res = unless (first_due (acceptance_tests p from res)) s (acceptance_work s p from res)
+on_acceptance s None from res = outcome s nothing
+on_acceptance s (Some p) from res = unless (first_due (acceptance_tests p from res)) s (acceptance_work s p from res)
 
 -- ---- a message, and a tick
 
@@ -335,16 +335,16 @@ receive s from at m = unless (first_due (message_tests from m)) s (work s from a
 -- "tick earlier than some pending arrival"
 unfoldable pub clock_back : ℕ → List (Option Pending) → Bool
 clock_back t [] = false
-clock_back t (none ∷ l) = clock_back t l
-clock_back t (some p ∷ l) = ltb t p.received_at || clock_back t l
+clock_back t (None ∷ l) = clock_back t l
+clock_back t (Some p ∷ l) = ltb t p.received_at || clock_back t l
 
 -- "t minus arrival greater than the timeout"
 abbrev pub late : Proposer → ℕ → Pending → Bool
 late s t p = ltb s.timeout (t - p.received_at)
 
 abbrev pub drop_late : Proposer → ℕ → Option Pending → Option Pending
-drop_late s t none = none
-drop_late s t (some p) = cond (late s t p) none (some p)
+drop_late s t None = None
+drop_late s t (Some p) = cond (late s t p) None (Some p)
 
 unfoldable pub in_time : Proposer → ℕ → List (Option Pending) → List (Option Pending)
 in_time s t [] = []
@@ -357,8 +357,8 @@ insert p (q ∷ l) = cond (above p.ballot q.ballot) (q ∷ insert p l) (p ∷ q 
 
 unfoldable pub late_ones : Proposer → ℕ → List (Option Pending) → List Pending
 late_ones s t [] = []
-late_ones s t (none ∷ l) = late_ones s t l
-late_ones s t (some p ∷ l) = cond (late s t p) (insert p (late_ones s t l)) (late_ones s t l)
+late_ones s t (None ∷ l) = late_ones s t l
+late_ones s t (Some p ∷ l) = cond (late s t p) (insert p (late_ones s t l)) (late_ones s t l)
 
 unfoldable pub rows_of : List Pending → List Row
 rows_of [] = []
@@ -373,7 +373,7 @@ tick s t =
 -- "It starts with counter 0, nothing pending and one given list as both lists"
 unfoldable pub empty_places : ℕ → List (Option Pending)
 empty_places zero = []
-empty_places (suc n) = none ∷ empty_places n
+empty_places (suc n) = None ∷ empty_places n
 
 unfoldable pub start : ℕ → List ℕ → ℕ → Proposer
 start timeout l n = record { counter = 0; accept_acceptors = l; propose_acceptors = l; timeout = timeout; places = empty_places n }

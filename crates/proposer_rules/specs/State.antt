@@ -1,7 +1,7 @@
 -- A proposer's state as 01 has it, on values.
 -- Assumes nothing.
 use Rattle.std.specs.Prelude.{Bool, true, false, ◌||◌, List, [], ◌∷◌, ◌++◌, ℕ, eqb}
-use Rattle.std.proofs.Math.Option.{Option, none}
+use Rattle.std.specs.Prelude.{Option, None}
 use Rattle.messages.specs.declared.Address.{Address}
 use Rattle.messages.specs.declared.Ballot.{Ballot}
 use Rattle.messages.specs.Ballots.{ballot0}
@@ -61,7 +61,7 @@ new_pending client id req ballot list at again = record {
   acks_from = [];
   nacks_from = [];
   promised = ballot0;
-  value = none;
+  value = None;
   received_at = at;
   retried = again;
 }

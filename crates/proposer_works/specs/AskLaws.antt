@@ -3,7 +3,7 @@
 use Rattle.std.proofs.Math.Path.{◌≡◌, refl, sym}
 use Rattle.std.proofs.Common.{ap, subst, ◌∙◌, arith}
 use Rattle.std.specs.Prelude.{Bool, true, false, not, ◌&&◌, ◌||◌, List, [], ◌∷◌, ℕ, zero, suc, ◌<◌, leb, get_or, set}
-use Rattle.std.proofs.Math.Option.{Option, none, some}
+use Rattle.std.specs.Prelude.{Option, None, Some}
 use Rattle.leaf_fields.specs.Laws.{and_true}
 use Rattle.messages.specs.declared.Address.{Address}
 use Rattle.messages.specs.declared.Ballot.{Ballot}
@@ -37,7 +37,7 @@ module _ (a w : List ℕ) (n i : ℕ) (ballot : Ballot) (held : Held a n) (ei : 
   abbrev s : Proposer
   s = read_area a n
 
-  none_pending : i ≡ n → pending_at ballot s.places ≡ none
+  none_pending : i ≡ n → pending_at ballot s.places ≡ None
   unfolding read_area
   none_pending e = find_none ballot s.places (sym ei ∙ e ∙ sym held.lawful.full)
 
@@ -61,32 +61,32 @@ module _ (a w : List ℕ) (n i : ℕ) (ballot : Ballot) (held : Held a n) (ei : 
     same_pending = ap read_pending (place_image_lem a n held i within ∙ ap place_image found.there) ∙ read_pending_lem found.pending found_lawful
 
     pub found_pends : Pends a n i
-    found_pends = record { within = within; used = found.there ∙ ap some (sym same_pending) }
+    found_pends = record { within = within; used = found.there ∙ ap Some (sym same_pending) }
 
-    pub found_only : pending_at ballot s.places ≡ some (read_pending (place_in a i))
-    found_only = found.only ∙ ap some (sym same_pending)
+    pub found_only : pending_at ballot s.places ≡ Some (read_pending (place_in a i))
+    found_only = found.only ∙ ap Some (sym same_pending)
 
     pub found_replaced : (q : Option Pending) → replace_at (read_pending (place_in a i)).ballot q s.places ≡ set s.places i q
     found_replaced q = rw same_pending (found.replaced q)
 
 -- ---- a sender that may answer
 
-none_not_some : (p : Pending) → none ≡ some p → ⊥
+none_not_some : (p : Pending) → None ≡ Some p → ⊥
 none_not_some p e = let z : ◌≡◌ {A = ℕ} 0 1 = cc in omega arith
 
-some_same : {p q : Pending} → some p ≡ some q → p ≡ q
+some_same : {p q : Pending} → Some p ≡ Some q → p ≡ q
 some_same e = cc
 
 -- what fits in every place fits in place i
-place_fits_lem : (c : ℕ) (l : List (Option Pending)) (i : ℕ) (p : Pending) → places_fit c l ≡ true → get_or l i none ≡ some p → pending_fits c p ≡ true
+place_fits_lem : (c : ℕ) (l : List (Option Pending)) (i : ℕ) (p : Pending) → places_fit c l ≡ true → get_or l i None ≡ Some p → pending_fits c p ≡ true
 unfolding places_fit
 place_fits_lem c [] i p fits e = absurd (none_not_some p e)
-place_fits_lem c (none ∷ l) zero p fits e = absurd (none_not_some p e)
-place_fits_lem c (none ∷ l) (suc i) p fits e = place_fits_lem c l i p fits e
-place_fits_lem c (some q ∷ l) zero p fits e = rw (← some_same e) (and_true (pending_fits c q) (places_fit c l) fits).0
-place_fits_lem c (some q ∷ l) (suc i) p fits e = place_fits_lem c l i p (and_true (pending_fits c q) (places_fit c l) fits).1 e
+place_fits_lem c (None ∷ l) zero p fits e = absurd (none_not_some p e)
+place_fits_lem c (None ∷ l) (suc i) p fits e = place_fits_lem c l i p fits e
+place_fits_lem c (Some q ∷ l) zero p fits e = rw (← some_same e) (and_true (pending_fits c q) (places_fit c l) fits).0
+place_fits_lem c (Some q ∷ l) (suc i) p fits e = place_fits_lem c l i p (and_true (pending_fits c q) (places_fit c l) fits).1 e
 
-answers_fit_lem : (s : Proposer) (i : ℕ) (p : Pending) → may_be_lent s ≡ true → get_or s.places i none ≡ some p → answers_fit p ≡ true
+answers_fit_lem : (s : Proposer) (i : ℕ) (p : Pending) → may_be_lent s ≡ true → get_or s.places i None ≡ Some p → answers_fit p ≡ true
 unfolding may_be_lent pending_fits
 answers_fit_lem s i p lent e =
     let lists = list_fits s.accept_acceptors && list_fits s.propose_acceptors in
@@ -120,7 +120,7 @@ module _ (a w : List ℕ) (n i : ℕ) (ballot : Ballot) (f : Front) (from : Addr
   abbrev p : Pending
   p = read_pending (place_in a i)
 
-  only : pending_at ballot state.places ≡ some p
+  only : pending_at ballot state.places ≡ Some p
   only = found_only a [] n i ballot held ei within
 
   pub second_phase_lem : f.phase ≡ Code.Phase.Accept → p.phase ≡ Accept
@@ -147,7 +147,7 @@ module _ (a w : List ℕ) (n i : ℕ) (ballot : Ballot) (f : Front) (from : Addr
     in_first_lem : (res : Result) → on_promise state (pending_at ballot state.places) from b v res ≡ unless (first_due (promise_tests state p from res)) state (promise_work state p from b v res)
     in_first_lem res = ap (λ (o : Option Pending). on_promise state o from b v res) only ∙ ap (λ (h : Phase). in_first state p h from b v res) (first_phase_lem first)
 
-    first_refused : (res : Result) (r : Refusal) → first_due (promise_tests state p from res) ≡ some r → Worked w (on_promise state (pending_at ballot state.places) from b v res) (Answer.Refused r) a w
+    first_refused : (res : Result) (r : Refusal) → first_due (promise_tests state p from res) ≡ Some r → Worked w (on_promise state (pending_at ballot state.places) from b v res) (Answer.Refused r) a w
     first_refused res r due =
         subst (λ (o : Outcome). Worked w o (Answer.Refused r) a w) (sym (in_first_lem res))
         (refused_work a w state (first_due (promise_tests state p from res)) (promise_work state p from b v res) r held.image due)

@@ -2,7 +2,7 @@
 -- Assumes nothing.
 use Rattle.std.specs.Prelude.{◌≡◌, refl, List, [], ℕ, ◌^◌, ◌<◌}
 use Rattle.std.proofs.Common.{ap, ◌∙◌}
-use Rattle.std.proofs.Math.Option.{none, some}
+use Rattle.std.specs.Prelude.{None, Some}
 use Rattle.std.proofs.lemmas.List.Edits.{sets}
 use Rattle.leaf_fields.specs.Fields.{to_le}
 use Rattle.messages.specs.declared.Address.{Address}
@@ -24,9 +24,9 @@ use Rattle.proposer_area.specs.Held.{Held, Pends}
 use Rattle.proposer_area.specs.HeldLaws.{with_both, lawful_pending}
 use Rattle.proposer_works.specs.Works.{Asks, placed}
 
-pub dropped : (a : List ℕ) (n i counter : ℕ) (a₁ a₂ : List ℕ) → Held a n → Pends a n i → a₁ ≡ sets a (place_at i) (place_image none) → a₂ ≡ sets a₁ counter_at (to_le 8 counter) → a₂ ≡ area_image (placed (read_area a n) counter i none)
+pub dropped : (a : List ℕ) (n i counter : ℕ) (a₁ a₂ : List ℕ) → Held a n → Pends a n i → a₁ ≡ sets a (place_at i) (place_image None) → a₂ ≡ sets a₁ counter_at (to_le 8 counter) → a₂ ≡ area_image (placed (read_area a n) counter i None)
 dropped a n i counter a₁ a₂ held pends e₁ e₂ =
-    e₂ ∙ ap (λ (u : List ℕ). sets u counter_at (to_le 8 counter)) e₁ ∙ with_both a n held i counter none pends.within tt
+    e₂ ∙ ap (λ (u : List ℕ). sets u counter_at (to_le 8 counter)) e₁ ∙ with_both a n held i counter None pends.within tt
 
 pub dropped_told : (f : Front) (p : Pending) (error : Error) → f ≡ front_of p → Answer.Message f.client (Rpc.ClientResponse f.id (Response.Err error)) 0 ≡ answer_of (to_client p (Reply.Failed (failure_of error [])))
 unfolding front_of
@@ -39,9 +39,9 @@ dropped_told f p error ef = rw ef (by error)
     by (Error.CasFailed OptionValue.Some) = refl
     by Error.Timeout = refl
 
-pub no_noted : (a : List ℕ) (n i counter : ℕ) (from : Address) (a₁ a₂ : List ℕ) → Held a n → Asks a n i → from.0 < 2 ^ 16 → a₁ ≡ sets a (place_at i) (place_image (some (with_no (read_pending (place_in a i)) from))) → a₂ ≡ sets a₁ counter_at (to_le 8 counter) → a₂ ≡ area_image (placed (read_area a n) counter i (some (with_no (read_pending (place_in a i)) from)))
+pub no_noted : (a : List ℕ) (n i counter : ℕ) (from : Address) (a₁ a₂ : List ℕ) → Held a n → Asks a n i → from.0 < 2 ^ 16 → a₁ ≡ sets a (place_at i) (place_image (Some (with_no (read_pending (place_in a i)) from))) → a₂ ≡ sets a₁ counter_at (to_le 8 counter) → a₂ ≡ area_image (placed (read_area a n) counter i (Some (with_no (read_pending (place_in a i)) from)))
 no_noted a n i counter from a₁ a₂ held asks fits e₁ e₂ =
     e₂
     ∙ ap (λ (u : List ℕ). sets u counter_at (to_le 8 counter)) e₁
-    ∙ with_both a n held i counter (some (with_no (read_pending (place_in a i)) from)) asks.pends.within
+    ∙ with_both a n held i counter (Some (with_no (read_pending (place_in a i)) from)) asks.pends.within
     (lawful_no (read_pending (place_in a i)) (lawful_pending a n held i asks.pends) from fits asks.more_noes)

@@ -2,7 +2,7 @@
 -- Assumes nothing.
 use Rattle.std.specs.Prelude.{◌≡◌, refl, Bool, true, false, cond, ◌≤◌, length}
 use Rattle.std.proofs.Common.{append-nil, arith, take_at, drop_at}
-use Rattle.std.proofs.Math.Option.{Option, none, some}
+use Rattle.std.specs.Prelude.{Option, None, Some}
 use Rattle.messages.specs.Message.{Value, Request, given}
 use Rattle.messages.specs.Limits.{value_most}
 use Rattle.messages.specs.Answers.{marked, bytes_of, request_rpc}
@@ -10,8 +10,8 @@ use Rattle.proposer_rules.specs.Rules.{same_value, applied, request_in}
 use Rattle.proposer_place.specs.Area.{first_value, second_value, values_of}
 
 pub given_back : (v : Option Value) → given (marked v) (bytes_of v) ≡ v
-given_back none = refl
-given_back (some v) = refl
+given_back None = refl
+given_back (Some v) = refl
 
 -- the row of a request's values is the request again, but for its key
 pub applied_in : (r : Request) (v : Option Value) → applied (request_in (request_rpc r) (values_of r) (length (bytes_of (first_value r)))) (given (marked v) (bytes_of v)) ≡ applied r v

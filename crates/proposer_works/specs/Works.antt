@@ -1,7 +1,7 @@
 -- The works of a message on an area that is an image: what holds where one begins, and its outcome by the place that it is done on.
 -- Assumes nothing.
 use Rattle.std.specs.Prelude.{◌≡◌, List, [], ◌∷◌, ℕ, ◌+◌, ◌*◌, ◌<◌, length, set}
-use Rattle.std.proofs.Math.Option.{Option, none, some}
+use Rattle.std.specs.Prelude.{Option, None, Some}
 use Rattle.messages.specs.declared.Address.{Address}
 use Rattle.messages.specs.declared.Ballot.{Ballot}
 use Rattle.messages.specs.declared.answer.Answer.{Answer}
@@ -44,16 +44,16 @@ placed s c i q = moved s c (set s.places i q)
 -- the second phase of the request at place i
 abbrev pub accepting : Proposer → ℕ → Pending → Outcome
 accepting s i p =
-    outcome (placed s s.counter i (some (to_accept s p)))
+    outcome (placed s s.counter i (Some (to_accept s p)))
     (to_each s.accept_acceptors (Message.AcceptReq p.ballot (key_of p.req) (applied p.req p.value).value))
 
 -- the request at place i proposed anew at the ballot after c
 abbrev pub retrying : Proposer → ℕ → ℕ → Pending → Outcome
-retrying s c i p = outcome (placed s (c + 1) i (some (asked_again (next_ballot c) s.propose_acceptors p))) (proposals s c p.req)
+retrying s c i p = outcome (placed s (c + 1) i (Some (asked_again (next_ballot c) s.propose_acceptors p))) (proposals s c p.req)
 
 -- the request at place i settled
 abbrev pub settled : Proposer → ℕ → Pending → Outcome
-settled s i p = outcome (placed s s.counter i none) (to_client p (reply_of p.req p.value))
+settled s i p = outcome (placed s s.counter i None) (to_client p (reply_of p.req p.value))
 
 -- an Ok promise, and a refused proposal, whose sender may answer
 abbrev pub granting : Proposer → Pending → Address → Ballot → Option Value → Outcome

@@ -3,7 +3,7 @@
 #![tactic(auto)]
 
 ghost use Rattle.std.specs.Prelude.{◌≡◌, cond, not, [], ◌≤◌, max, eqb, leb, length};
-ghost use Rattle.std.proofs.Math.Option.{none, some};
+ghost use Rattle.std.specs.Prelude.{None, Some};
 ghost use Rattle.std.proofs.lemmas.List.Edits.{sets};
 ghost use Rattle.messages.specs.Message.{Reply, failure_of};
 ghost use Rattle.messages.specs.Limits.{key_most, value_most};
@@ -69,7 +69,7 @@ pub fn higher(x: u64, y: u64) -> u64
 // The request at place i dropped, its client told an error, and the counter raised.
 pub fn drop_with(area: &mut [u8], places: usize, i: usize, counter: u64, error: Error) -> Answer
     requires { (Held area.old places) × (Pends area.old places i) }
-    ensures { (result ≡ answer_of (to_client (read_pending (place_in area.old i)) (Reply.Failed (failure_of error [])))) × (area.new ≡ area_image (placed (read_area area.old places) counter i none)) }
+    ensures { (result ≡ answer_of (to_client (read_pending (place_in area.old i)) (Reply.Failed (failure_of error [])))) × (area.new ≡ area_image (placed (read_area area.old places) counter i None)) }
 {
     let f = proposer_area::take_place(area, i);
     proposer_area::drop_place(area, i);
@@ -85,7 +85,7 @@ pub fn drop_with(area: &mut [u8], places: usize, i: usize, counter: u64, error: 
 // One more no at place i, and the counter raised.
 pub fn raise_with(area: &mut [u8], places: usize, i: usize, counter: u64, from: Address)
     requires { (Held area.old places) × (Asks area.old places i) }
-    ensures { area.new ≡ area_image (placed (read_area area.old places) counter i (some (with_no (read_pending (place_in area.old i)) from))) }
+    ensures { area.new ≡ area_image (placed (read_area area.old places) counter i (Some (with_no (read_pending (place_in area.old i)) from))) }
 {
     proposer_area::note_no(area, i, from);
     proposer_area::put_counter(area, counter);

@@ -1,7 +1,7 @@
 -- The lines of a script's output, as docs/SCRIPT.md has them: a message, an answer, a block and an answer area in words.
 -- Assumes nothing.
 use Rattle.std.specs.Prelude.{cond, List, [], ◌∷◌, ◌++◌, ℕ, zero, suc, ◌+◌, leb, length, take}
-use Rattle.std.proofs.Math.Option.{Option, none, some}
+use Rattle.std.specs.Prelude.{Option, None, Some}
 use Rattle.leaf_fields.specs.Fields.{from_le, part, all_zero}
 use Rattle.messages.specs.declared.answer.Answer.{Answer}
 use Rattle.messages.specs.declared.answer.Refusal.{Refusal}
@@ -23,8 +23,8 @@ bytes_text b = letters " x" ++ hex_of b
 
 -- a space and OPT
 abbrev pub option_text : Option Value → List ℕ
-option_text none = letters " none"
-option_text (some v) = bytes_text v
+option_text None = letters " none"
+option_text (Some v) = bytes_text v
 
 -- what follows the first entry of a LIST
 unfoldable pub entries_text : List ℕ → List ℕ

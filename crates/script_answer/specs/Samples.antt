@@ -1,7 +1,7 @@
 -- The answers of the two examples in docs/SCRIPT.md, and a line of each other kind, computed from the definitions.
 -- Assumes nothing.
 use Rattle.std.specs.Prelude.{◌≡◌, refl, List, [], ◌∷◌, ℕ, replicate}
-use Rattle.std.proofs.Math.Option.{some}
+use Rattle.std.specs.Prelude.{Some}
 use Rattle.leaf_fields.specs.Fields.{from_le, to_le, all_zero}
 use Rattle.messages.specs.declared.Address.{Address}
 use Rattle.messages.specs.declared.Ballot.{Ballot}
@@ -42,7 +42,7 @@ pub record Samples : Type 0 where
   pub over_limit : answer_line (Answer.Refused Refusal.OverLimit) [] ≡ letters "refused 4 OverLimit\n"
   pub nothing_said : answer_line Answer.Nothing [] ≡ letters "nothing\n"
   pub proposals : line (each three (Message.ProposeReq (ballot 1) key)) ≡ letters "each 1,2,3 ProposeReq 1 x6b\n"
-  pub accepts : line (each three (Message.AcceptReq (ballot 1) key (some (65 ∷ [])))) ≡ letters "each 1,2,3 AcceptReq 1 x6b x41\n"
+  pub accepts : line (each three (Message.AcceptReq (ballot 1) key (Some (65 ∷ [])))) ≡ letters "each 1,2,3 AcceptReq 1 x6b x41\n"
   pub response : answer_line (Answer.Message (address 9) (Rpc.ClientResponse 1 (Response.Ok OptionValue.Some)) 1) (65 ∷ []) ≡ letters "to 9 ClientResponse 1 Ok x41\n"
   pub over_time : line (timeouts (record { client = address 9; id = 1234567890 } ∷ record { client = address 10; id = 0 } ∷ [])) ≡ letters "timeouts 9:1234567890 10:0\n"
   pub area : area_line (10 ∷ 0 ∷ 255 ∷ 0 ∷ 0 ∷ []) ≡ letters "area 0a00ff\n"

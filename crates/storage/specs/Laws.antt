@@ -3,7 +3,7 @@
 use Rattle.std.specs.Prelude.{◌≡◌, refl, Bool, true, false, not, ◌||◌, List, [], ◌∷◌, ℕ, ◌+◌, ◌*◌, ◌≤◌, length}
 use Rattle.std.proofs.Common.{sym, ◌∙◌}
 use Rattle.std.proofs.Math.Path.{ap}
-use Rattle.std.proofs.Math.Option.{Option, none, some}
+use Rattle.std.specs.Prelude.{Option, None, Some}
 use Rattle.messages.specs.declared.answer.Refusal.{Refusal}
 use Rattle.messages.specs.Message.{Key, Value}
 use Rattle.messages.specs.Limits.{key_fits, register_fits}
@@ -42,35 +42,35 @@ module _ (t : List ℕ) (n : ℕ) (k : Key) where
 
 -- ---- what the place that was found says
 
-known_due : (o : Option Refusal) (f g : Found) → place_by o f ≡ Place.Known g → o ≡ none
-known_due none f g e = refl
-known_due (some x) f g e = cc
+known_due : (o : Option Refusal) (f g : Found) → place_by o f ≡ Place.Known g → o ≡ None
+known_due None f g e = refl
+known_due (Some x) f g e = cc
 
 known_found : (o : Option Refusal) (f g : Found) → place_by o f ≡ Place.Known g → f ≡ g
-known_found none f g e = cc
-known_found (some x) f g e = cc
+known_found None f g e = cc
+known_found (Some x) f g e = cc
 
-refused_due : (o : Option Refusal) (f : Found) (x : Refusal) → place_by o f ≡ Place.Refused x → o ≡ some x
-refused_due none f x e = cc
-refused_due (some y) f x e = cc
+refused_due : (o : Option Refusal) (f : Found) (x : Refusal) → place_by o f ≡ Place.Refused x → o ≡ Some x
+refused_due None f x e = cc
+refused_due (Some y) f x e = cc
 
-searched_sized : (s b w l : Bool) → first_due (test (not s) Refusal.AreaSize ∷ test (not b || w) Refusal.Damaged ∷ test (not l) Refusal.OverLimit ∷ []) ≡ none → s ≡ true
+searched_sized : (s b w l : Bool) → first_due (test (not s) Refusal.AreaSize ∷ test (not b || w) Refusal.Damaged ∷ test (not l) Refusal.OverLimit ∷ []) ≡ None → s ≡ true
 searched_sized false b w l e = cc
 searched_sized true b w l e = refl
 
-searched_sound : (s b w l : Bool) → first_due (test (not s) Refusal.AreaSize ∷ test (not b || w) Refusal.Damaged ∷ test (not l) Refusal.OverLimit ∷ []) ≡ none → b ≡ true
+searched_sound : (s b w l : Bool) → first_due (test (not s) Refusal.AreaSize ∷ test (not b || w) Refusal.Damaged ∷ test (not l) Refusal.OverLimit ∷ []) ≡ None → b ≡ true
 searched_sound false b w l e = cc
 searched_sound true false w l e = cc
 searched_sound true true w l e = refl
 
 -- a place that no test refuses
 pub record Known (t : List ℕ) (n : ℕ) (k : Key) (f : Found) : Type 0 where
-  pub due : first_due (key_tests t n k) ≡ none
+  pub due : first_due (key_tests t n k) ≡ None
   pub lent : Lent t n
   pub here : where_is k (slots t n) ≡ f
 
 module _ (t : List ℕ) (n : ℕ) (k : Key) (p : Place) (ep : p ≡ place_of t n k) where
-  pub refused_of : (x : Refusal) → p ≡ Place.Refused x → first_due (key_tests t n k) ≡ some x
+  pub refused_of : (x : Refusal) → p ≡ Place.Refused x → first_due (key_tests t n k) ≡ Some x
   unfolding place_of
   refused_of x e = refused_due (first_due (key_tests t n k)) (where_is k (slots t n)) x (sym ep ∙ e)
 
@@ -99,25 +99,25 @@ module _ (t : List ℕ) (n : ℕ) (k : Key) (p : Place) (ep : p ≡ place_of t n
 
 -- ---- what a lookup says
 
-is_due : (o : Option Refusal) (r : Register) (h : Held) → lookup_by o r ≡ Lookup.Is h → o ≡ none
-is_due none r h e = refl
-is_due (some x) r h e = cc
+is_due : (o : Option Refusal) (r : Register) (h : Held) → lookup_by o r ≡ Lookup.Is h → o ≡ None
+is_due None r h e = refl
+is_due (Some x) r h e = cc
 
 is_seen : (o : Option Refusal) (r : Register) (h : Held) → lookup_by o r ≡ Lookup.Is h → h.seen ≡ r.seen
-is_seen none r h e = cc
-is_seen (some x) r h e = cc
+is_seen None r h e = cc
+is_seen (Some x) r h e = cc
 
 is_accepted : (o : Option Refusal) (r : Register) (h : Held) → lookup_by o r ≡ Lookup.Is h → h.accepted ≡ r.accepted
-is_accepted none r h e = cc
-is_accepted (some x) r h e = cc
+is_accepted None r h e = cc
+is_accepted (Some x) r h e = cc
 
-not_due : (o : Option Refusal) (r : Register) (x : Refusal) → lookup_by o r ≡ Lookup.Refused x → o ≡ some x
-not_due none r x e = cc
-not_due (some y) r x e = cc
+not_due : (o : Option Refusal) (r : Register) (x : Refusal) → lookup_by o r ≡ Lookup.Refused x → o ≡ Some x
+not_due None r x e = cc
+not_due (Some y) r x e = cc
 
 -- ballots that no test refuses
 pub record Looked (t : List ℕ) (n : ℕ) (k : Key) (h : Held) : Type 0 where
-  pub due : first_due (key_tests t n k) ≡ none
+  pub due : first_due (key_tests t n k) ≡ None
   pub seen : h.seen ≡ (register_on t n k).seen
   pub accepted : h.accepted ≡ (register_on t n k).accepted
 
@@ -129,7 +129,7 @@ module _ (t : List ℕ) (n : ℕ) (k : Key) (l : Lookup) (el : l ≡ lookup t n 
       let r = register_on t n k in
       record { due = is_due o r h (sym el ∙ e); seen = is_seen o r h (sym el ∙ e); accepted = is_accepted o r h (sym el ∙ e) }
 
-  pub unlooked_of : (x : Refusal) → l ≡ Lookup.Refused x → first_due (key_tests t n k) ≡ some x
+  pub unlooked_of : (x : Refusal) → l ≡ Lookup.Refused x → first_due (key_tests t n k) ≡ Some x
   unfolding lookup
   unlooked_of x e = not_due (first_due (key_tests t n k)) (register_on t n k) x (sym el ∙ e)
 
@@ -141,8 +141,8 @@ module _ (t : List ℕ) (n : ℕ) (k : Key) (c : Change) (v : Value) where
   key_set o f r d t' eo ef er ed et = record { done = rw eo ed; table = rw (eo, ef, er) et }
 
   -- a refusal leaves every byte
-  pub set_refused : (x : Refusal) → first_due (set_tests t n k c v) ≡ some x → KeySet t n k c v (Done.Refused x) t
-  set_refused x e = key_set (some x) (where_is k (slots t n)) (next_on t n k c v) (Done.Refused x) t e refl refl refl refl
+  pub set_refused : (x : Refusal) → first_due (set_tests t n k c v) ≡ Some x → KeySet t n k c v (Done.Refused x) t
+  set_refused x e = key_set (Some x) (where_is k (slots t n)) (next_on t n k c v) (Done.Refused x) t e refl refl refl refl
 
   pub set_size : is_sized t n ≡ false → KeySet t n k c v (Done.Refused Refusal.AreaSize) t
   set_size h = set_refused Refusal.AreaSize (rw h)
@@ -167,7 +167,7 @@ module _ (t : List ℕ) (n : ℕ) (k : Key) (c : Change) (v : Value) where
     set_twice e = set_refused Refusal.Damaged (rw (lent.sized, lent.sound, e))
 
     -- the tests of the register, and room for it
-    due_set : (f : Found) (r : Register) → where_is k (slots t n) ≡ f → is_twice f ≡ false → next_on t n k c v ≡ r → r.key ≡ k → first_due (set_tests t n k c v) ≡ pick_first (disordered r) Refusal.Damaged (pick_first (not (register_fits r.key r.value)) Refusal.OverLimit (pick_first (is_full f) Refusal.NoRoom none))
+    due_set : (f : Found) (r : Register) → where_is k (slots t n) ≡ f → is_twice f ≡ false → next_on t n k c v ≡ r → r.key ≡ k → first_due (set_tests t n k c v) ≡ pick_first (disordered r) Refusal.Damaged (pick_first (not (register_fits r.key r.value)) Refusal.OverLimit (pick_first (is_full f) Refusal.NoRoom None))
     due_set f r e one_block er ek = rw (lent.sized, lent.sound, e, one_block, er, ek)
 
     -- a register that a block takes
@@ -190,14 +190,14 @@ module _ (t : List ℕ) (n : ℕ) (k : Key) (c : Change) (v : Value) where
     set_full d e ed =
         let r = changed c v (fresh k) in
         let er : next_on t n k c v ≡ r = next_is (fresh k) (register_on_lem t n k Found.Full e) in
-        let o = pick_first (disordered r) Refusal.Damaged (pick_first (not (register_fits r.key r.value)) Refusal.OverLimit (some Refusal.NoRoom)) in
+        let o = pick_first (disordered r) Refusal.Damaged (pick_first (not (register_fits r.key r.value)) Refusal.OverLimit (Some Refusal.NoRoom)) in
         key_set o Found.Full r d t (due_set Found.Full r e refl er (next-key (fresh k))) e er (ed ∙ refuses (disordered r) (not (register_fits r.key r.value))) (stays o)
       where
-        refuses : (x y : Bool) → or_no_room (pick_first x Refusal.Damaged (pick_first y Refusal.OverLimit none)) ≡ done_by (pick_first x Refusal.Damaged (pick_first y Refusal.OverLimit (some Refusal.NoRoom)))
+        refuses : (x y : Bool) → or_no_room (pick_first x Refusal.Damaged (pick_first y Refusal.OverLimit None)) ≡ done_by (pick_first x Refusal.Damaged (pick_first y Refusal.OverLimit (Some Refusal.NoRoom)))
         refuses true y = refl
         refuses false true = refl
         refuses false false = refl
 
         stays : (o : Option Refusal) → t ≡ block_by o t t
-        stays none = refl
-        stays (some x) = refl
+        stays None = refl
+        stays (Some x) = refl

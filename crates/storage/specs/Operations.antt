@@ -1,7 +1,7 @@
 -- The crate's six storage operations on a lent table: what each answers, and every byte after it.
 -- Assumes nothing.
 use Rattle.std.specs.Prelude.{◌≡◌, Bool, not, ◌||◌, List, [], ◌∷◌, ℕ, eqb, length}
-use Rattle.std.proofs.Math.Option.{Option, none, some}
+use Rattle.std.specs.Prelude.{Option, None, Some}
 use Rattle.std.proofs.lemmas.List.Edits.{sets}
 use Rattle.messages.specs.declared.Ballot.{Ballot}
 use Rattle.messages.specs.declared.answer.Refusal.{Refusal}
@@ -35,8 +35,8 @@ unfoldable pub register_on : List ℕ → ℕ → Key → Register
 register_on t n k = register_by k (slots t n) (where_is k (slots t n))
 
 abbrev pub got_ballot : Option Refusal → Ballot → GotBallot
-got_ballot (some x) b = GotBallot.Refused x
-got_ballot none b = GotBallot.Is b
+got_ballot (Some x) b = GotBallot.Refused x
+got_ballot None b = GotBallot.Is b
 
 -- `get_highest_seen`
 unfoldable pub highest_seen : List ℕ → ℕ → Key → GotBallot
@@ -47,16 +47,16 @@ unfoldable pub accepted_ballot : List ℕ → ℕ → Key → GotBallot
 accepted_ballot t n k = got_ballot (first_due (key_tests t n k)) (register_on t n k).accepted
 
 abbrev pub value_answer : Option Value → GotValue
-value_answer none = GotValue.None
-value_answer (some v) = GotValue.Some (length v)
+value_answer None = GotValue.None
+value_answer (Some v) = GotValue.Some (length v)
 
 abbrev pub got_value : Option Refusal → Option Value → GotValue
-got_value (some x) v = GotValue.Refused x
-got_value none v = value_answer v
+got_value (Some x) v = GotValue.Refused x
+got_value None v = value_answer v
 
 abbrev pub value_written : Option Refusal → List ℕ → Option Value → List ℕ
-value_written (some x) a v = a
-value_written none a v = sets a 0 (bytes_of v)
+value_written (Some x) a v = a
+value_written None a v = sets a 0 (bytes_of v)
 
 -- refusal 1 also for the area that takes the value
 abbrev pub value_tests : List ℕ → ℕ → Key → List ℕ → List Test
@@ -87,12 +87,12 @@ register_tests r =
     ∷ []
 
 abbrev pub done_by : Option Refusal → Done
-done_by (some x) = Done.Refused x
-done_by none = Done.Stored
+done_by (Some x) = Done.Refused x
+done_by None = Done.Stored
 
 abbrev pub block_by : Option Refusal → List ℕ → List ℕ → List ℕ
-block_by (some x) old new = old
-block_by none old new = new
+block_by (Some x) old new = old
+block_by None old new = new
 
 -- a register stored in one block
 pub record RegisterSet (r : Register) (b : List ℕ) (d : Done) (b' : List ℕ) : Type 0 where
@@ -127,15 +127,15 @@ pub record KeySet (t : List ℕ) (n : ℕ) (k : Key) (c : Change) (v : Value) (d
 -- ---- for the functions below the public ones
 
 abbrev pub place_by : Option Refusal → Found → Place
-place_by (some x) f = Place.Refused x
-place_by none f = Place.Known f
+place_by (Some x) f = Place.Refused x
+place_by None f = Place.Known f
 
 unfoldable pub place_of : List ℕ → ℕ → Key → Place
 place_of t n k = place_by (first_due (key_tests t n k)) (where_is k (slots t n))
 
 abbrev pub lookup_by : Option Refusal → Register → Lookup
-lookup_by (some x) r = Lookup.Refused x
-lookup_by none r = Lookup.Is (record { seen = r.seen; accepted = r.accepted })
+lookup_by (Some x) r = Lookup.Refused x
+lookup_by None r = Lookup.Is (record { seen = r.seen; accepted = r.accepted })
 
 unfoldable pub lookup : List ℕ → ℕ → Key → Lookup
 lookup t n k = lookup_by (first_due (key_tests t n k)) (register_on t n k)
@@ -147,8 +147,8 @@ pub record BlockSet (r : Register) (t : List ℕ) (i : ℕ) (d : Done) (t' : Lis
 
 -- a register that no block takes
 abbrev pub or_no_room : Option Refusal → Done
-or_no_room (some x) = Done.Refused x
-or_no_room none = Done.Refused Refusal.NoRoom
+or_no_room (Some x) = Done.Refused x
+or_no_room None = Done.Refused Refusal.NoRoom
 
 abbrev pub full_by : Register → Done
 full_by r = or_no_room (first_due (register_tests r))

@@ -1,7 +1,7 @@
 -- 01's register block: the register that a block holds, what a free and a good block is, and the bytes of a register.
 -- Assumes nothing.
 use Rattle.std.specs.Prelude.{◌≡◌, Bool, false, not, cond, ◌&&◌, ◌||◌, List, ◌∷◌, ◌++◌, ℕ, ◌+◌, ◌*◌, ◌^◌, ◌≤◌, ◌<◌, eqb, leb, length}
-use Rattle.std.proofs.Math.Option.{Option, none, some}
+use Rattle.std.specs.Prelude.{Option, None, Some}
 use Rattle.leaf_fields.specs.Fields.{from_le, to_le, part, span, byte, all_zero, Bytes, padded}
 use Rattle.leaf_sums.specs.Sums.{plain_sum, placed_sum}
 use Rattle.messages.specs.Ballots.{ballot0, above}
@@ -24,7 +24,7 @@ register k s a v = record { key = k; seen = s; accepted = a; value = v }
 
 -- "A key without a block has ballots 0 and no value."
 abbrev pub fresh : Key → Register
-fresh k = register k ballot0 ballot0 none
+fresh k = register k ballot0 ballot0 None
 
 -- a register within the limits of 01
 pub record Lawful (r : Register) : Type 0 where
@@ -51,7 +51,7 @@ value_length b = from_le (part b 4 2)
 
 -- "Byte 2: 1 if a value is present, else 0"; "88-343: value"
 abbrev pub value_of : List ℕ → Option Value
-value_of b = cond (eqb (byte b 2) 0) none (some (part b 88 (value_length b)))
+value_of b = cond (eqb (byte b 2) 0) None (Some (part b 88 (value_length b)))
 
 -- "8-15: highest seen ballot. 16-23: accepted ballot"; "24-87: key"
 unfoldable pub register_of : List ℕ → Register

@@ -3,7 +3,7 @@
 use Rattle.std.specs.Prelude.{◌≡◌, refl, Bool, true, false, not, cond, ◌&&◌, ◌||◌, List, [], ◌∷◌, ◌++◌, ℕ, ◌+◌, ◌-◌, ◌*◌, ◌≤◌, eqb, leb, take, drop, replicate}
 use Rattle.std.proofs.Common.{sym, ◌∙◌, arith, eqb-true, leb-true, length-drop, length-take, take-append-drop, drop-drop, take_all}
 use Rattle.std.proofs.Math.Path.{ap}
-use Rattle.std.proofs.Math.Option.{none, some}
+use Rattle.std.specs.Prelude.{None, Some}
 use Rattle.std.proofs.lemmas.Bool.{eqb-false, not-true}
 use Rattle.std.proofs.Math.ListN.{length}
 use Rattle.leaf_fields.specs.Fields.{from_le, to_le, part, span, byte, all_zero, Bytes, padded}
@@ -53,7 +53,7 @@ pub bytes_of-value : (b : List ℕ) → head_good b ≡ true → bytes_of (regis
 unfolding register_of
 bytes_of-value b h = go (eqb (byte b 2) 0) refl
   where
-    go : (z : Bool) → eqb (byte b 2) 0 ≡ z → bytes_of (cond (eqb (byte b 2) 0) none (some (part b 88 (value_length b)))) ≡ part b 88 (value_length b)
+    go : (z : Bool) → eqb (byte b 2) 0 ≡ z → bytes_of (cond (eqb (byte b 2) 0) None (Some (part b 88 (value_length b)))) ≡ part b 88 (value_length b)
     go true e =
         let unmarked : byte b 2 ≡ 0 = eqb-true (byte b 2) 0 e in
         let head = head_of_lem b h in
@@ -131,7 +131,7 @@ padded-part b a n k short room zeros =
 mark_back : (b : List ℕ) → byte b 2 ≤ 1 → mark_byte (marked (value_of b)) ≡ byte b 2
 mark_back b h = go (eqb (byte b 2) 0) refl
   where
-    go : (z : Bool) → eqb (byte b 2) 0 ≡ z → mark_byte (marked (cond (eqb (byte b 2) 0) none (some (part b 88 (value_length b))))) ≡ byte b 2
+    go : (z : Bool) → eqb (byte b 2) 0 ≡ z → mark_byte (marked (cond (eqb (byte b 2) 0) None (Some (part b 88 (value_length b))))) ≡ byte b 2
     go true e = rw e (sym (eqb-true (byte b 2) 0 e))
     go false e =
         let set-mark = eqb-false (byte b 2) 0 e in

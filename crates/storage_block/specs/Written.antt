@@ -4,7 +4,7 @@ use Rattle.std.specs.Prelude.{◌≡◌, true, false, cond, ℕ, ◌+◌, ◌-�
 use Rattle.std.proofs.Math.Path.{refl, ap}
 use Rattle.std.proofs.Common.{sym, ◌∙◌, lit<, drop-drop}
 use mathlib.Core.List.{List, ◌∷◌, ◌++◌, append_assoc}
-use Rattle.std.proofs.Math.Option.{Option, none, some}
+use Rattle.std.specs.Prelude.{Option, None, Some}
 use native.Mathlib.Omega.{arith}
 use borrow.Author.Tests.{eq-eqb, le-leb, ltb-false}
 use Rattle.std.proofs.Math.ListN.{length, take, drop, length-append}
@@ -66,13 +66,13 @@ mark_bit OptionValue.Some = omega arith
 
 -- no length without a mark
 marked-length : (v : Option Value) → length (bytes_of v) ≤ value_most → length (bytes_of v) ≤ value_most * mark_byte (marked v)
-marked-length none h = omega arith
-marked-length (some v) h = omega arith
+marked-length None h = omega arith
+marked-length (Some v) h = omega arith
 
 -- the mark and the bytes say the value
-value_back : (v : Option Value) → cond (eqb (mark_byte (marked v)) 0) none (some (bytes_of v)) ≡ v
-value_back none = refl
-value_back (some v) = refl
+value_back : (v : Option Value) → cond (eqb (mark_byte (marked v)) 0) None (Some (bytes_of v)) ≡ v
+value_back None = refl
+value_back (Some v) = refl
 
 -- ---- the image
 

@@ -5,7 +5,7 @@ use Rattle.std.proofs.Common.{sym, ap, ◌∙◌, add-zero, zero-add, add-one, e
 use Rattle.std.specs.Prelude.{Bool, not, cond, ◌&&◌, List, [], ◌∷◌, eqb, get_or, take, drop, set}
 use Rattle.std.proofs.Math.Bool.{true, false}
 use Rattle.std.proofs.lemmas.Bool.{false≢true, not-true}
-use Rattle.std.proofs.Math.Option.{Option, none, some}
+use Rattle.std.specs.Prelude.{Option, None, Some}
 use Prim.Native.Nat.{ℕ, zero, suc, ◌+◌, ◌-◌, ◌*◌, ◌≤◌, ◌<◌}
 use Rattle.std.proofs.Math.Nat.{sub-zero}
 use native.Mathlib.Omega.{arith}
@@ -73,14 +73,14 @@ slots_with t n i b lt lb h =
 
 -- ---- what a search finds
 
-pub first_in_lem : (p : Slot → Bool) (i : ℕ) (l : List Slot) (k : ℕ) → first_from p i l ≡ some k → (i ≤ k) × (k < i + length l) × (p (get_or l (k - i) free) ≡ true)
+pub first_in_lem : (p : Slot → Bool) (i : ℕ) (l : List Slot) (k : ℕ) → first_from p i l ≡ Some k → (i ≤ k) × (k < i + length l) × (p (get_or l (k - i) free) ≡ true)
 unfolding first_from
 first_in_lem p i [] k e = let z : ◌≡◌ {A = ℕ} 0 1 = cc in absurd (omega arith)
 first_in_lem p i (s ∷ l) k e = go (p s) refl (first_in_lem p (suc i) l k)
   where
-    go : (h : Bool) → p s ≡ h → (first_from p (suc i) l ≡ some k → (suc i ≤ k) × (k < suc i + length l) × (p (get_or l (k - suc i) free) ≡ true)) → (i ≤ k) × (k < i + suc (length l)) × (p (get_or (s ∷ l) (k - i) free) ≡ true)
+    go : (h : Bool) → p s ≡ h → (first_from p (suc i) l ≡ Some k → (suc i ≤ k) × (k < suc i + length l) × (p (get_or l (k - suc i) free) ≡ true)) → (i ≤ k) × (k < i + suc (length l)) × (p (get_or (s ∷ l) (k - i) free) ≡ true)
     go true eh later =
-        let f : some i ≡ some k = rw eh at e in
+        let f : Some i ≡ Some k = rw eh at e in
         let same_place : i ≡ k = cc in
         let at_front : k - i ≡ 0 = omega arith in
         (omega arith, omega arith, rw at_front eh)
@@ -90,37 +90,37 @@ first_in_lem p i (s ∷ l) k e = go (p s) refl (first_in_lem p (suc i) l k)
         (omega arith, omega arith, rw behind r.2)
 
 -- where no block is found, none is counted
-pub count-none : (p : Slot → Bool) (i : ℕ) (l : List Slot) → first_from p i l ≡ none → count p l ≡ 0
+pub count-none : (p : Slot → Bool) (i : ℕ) (l : List Slot) → first_from p i l ≡ None → count p l ≡ 0
 unfolding first_from count
 count-none p i [] e = refl
 count-none p i (s ∷ l) e = go (p s) refl (count-none p (suc i) l)
   where
-    go : (h : Bool) → p s ≡ h → (first_from p (suc i) l ≡ none → count p l ≡ 0) → cond (p s) (suc (count p l)) (count p l) ≡ 0
+    go : (h : Bool) → p s ≡ h → (first_from p (suc i) l ≡ None → count p l ≡ 0) → cond (p s) (suc (count p l)) (count p l) ≡ 0
     go true eh later =
-        let f : some i ≡ none = rw eh at e in
+        let f : Some i ≡ None = rw eh at e in
         let z : ◌≡◌ {A = ℕ} 0 1 = cc in
         omega arith
     go false eh later = rw eh (later (rw eh at e))
 
 -- where one is found, one is counted at least
-pub count-some : (p : Slot → Bool) (i : ℕ) (l : List Slot) (k : ℕ) → first_from p i l ≡ some k → 0 < count p l
+pub count-some : (p : Slot → Bool) (i : ℕ) (l : List Slot) (k : ℕ) → first_from p i l ≡ Some k → 0 < count p l
 unfolding first_from count
 count-some p i [] k e = let z : ◌≡◌ {A = ℕ} 0 1 = cc in omega arith
 count-some p i (s ∷ l) k e = go (p s) refl (count-some p (suc i) l k)
   where
-    go : (h : Bool) → p s ≡ h → (first_from p (suc i) l ≡ some k → 0 < count p l) → 0 < cond (p s) (suc (count p l)) (count p l)
+    go : (h : Bool) → p s ≡ h → (first_from p (suc i) l ≡ Some k → 0 < count p l) → 0 < cond (p s) (suc (count p l)) (count p l)
     go true eh later = rw eh (omega arith)
     go false eh later = rw eh (later (rw eh at e))
 
 -- the first one, and those behind it
-pub count_first : (p : Slot → Bool) (t : List ℕ) (i m k : ℕ) → first_from p i (slots_from t i m) ≡ some k → count p (slots_from t i m) ≡ suc (count p (slots_from t (suc k) (i + m - suc k)))
+pub count_first : (p : Slot → Bool) (t : List ℕ) (i m k : ℕ) → first_from p i (slots_from t i m) ≡ Some k → count p (slots_from t i m) ≡ suc (count p (slots_from t (suc k) (i + m - suc k)))
 unfolding first_from count slots_from
 count_first p t i zero k e = let z : ◌≡◌ {A = ℕ} 0 1 = cc in omega arith
 count_first p t i (suc m) k e = go (p (slot_of (block_at t i))) refl (count_first p t (suc i) m k)
   where
-    go : (h : Bool) → p (slot_of (block_at t i)) ≡ h → (first_from p (suc i) (slots_from t (suc i) m) ≡ some k → count p (slots_from t (suc i) m) ≡ suc (count p (slots_from t (suc k) (suc i + m - suc k)))) → cond (p (slot_of (block_at t i))) (suc (count p (slots_from t (suc i) m))) (count p (slots_from t (suc i) m)) ≡ suc (count p (slots_from t (suc k) (i + suc m - suc k)))
+    go : (h : Bool) → p (slot_of (block_at t i)) ≡ h → (first_from p (suc i) (slots_from t (suc i) m) ≡ Some k → count p (slots_from t (suc i) m) ≡ suc (count p (slots_from t (suc k) (suc i + m - suc k)))) → cond (p (slot_of (block_at t i))) (suc (count p (slots_from t (suc i) m))) (count p (slots_from t (suc i) m)) ≡ suc (count p (slots_from t (suc k) (i + suc m - suc k)))
     go true eh later =
-        let f : some i ≡ some k = rw eh at e in
+        let f : Some i ≡ Some k = rw eh at e in
         let same_place : k ≡ i = cc in
         let left : i + suc m - suc i ≡ m = omega arith in
         rw (eh, same_place, left)
@@ -134,15 +134,15 @@ free_is (used r) h = absurd (false≢true h)
 free_is bad h = absurd (false≢true h)
 
 module _ (k : Key) (l : List Slot) (i : ℕ) where
-  by_at : (o f : Option ℕ) → found_by o f ≡ Found.At i → o ≡ some i
-  by_at none none e = cc
-  by_at none (some j) e = cc
-  by_at (some j) f e = cc
+  by_at : (o f : Option ℕ) → found_by o f ≡ Found.At i → o ≡ Some i
+  by_at None None e = cc
+  by_at None (Some j) e = cc
+  by_at (Some j) f e = cc
 
-  by_free : (o f : Option ℕ) → found_by o f ≡ Found.Free i → f ≡ some i
-  by_free none none e = cc
-  by_free none (some j) e = cc
-  by_free (some j) f e = cc
+  by_free : (o f : Option ℕ) → found_by o f ≡ Found.Free i → f ≡ Some i
+  by_free None None e = cc
+  by_free None (Some j) e = cc
+  by_free (Some j) f e = cc
 
   -- the place that is found is one of the table's, and holds the key
   pub where_at : where_is k l ≡ Found.At i → (i < length l) × (holds k (get_or l i free) ≡ true)
@@ -287,7 +287,7 @@ module _ (t : List ℕ) (n i : ℕ) (lent : Lent t n) (lt : i < n) where
 -- ---- one turn of a search of the blocks from i up to n
 
 module _ (p : Slot → Bool) (t : List ℕ) (n i : ℕ) (o : Option ℕ) (left : first_from p i (slots_from t i (n - i)) ≡ o) where
-  turned : i < n → cond (p (slot_of (block_at t i))) (some i) (first_from p (suc i) (slots_from t (suc i) (n - suc i))) ≡ o
+  turned : i < n → cond (p (slot_of (block_at t i))) (Some i) (first_from p (suc i) (slots_from t (suc i) (n - suc i))) ≡ o
   unfolding first_from slots_from
   turned more =
       let e : n - i ≡ suc (n - suc i) = omega arith in
@@ -296,10 +296,10 @@ module _ (p : Slot → Bool) (t : List ℕ) (n i : ℕ) (o : Option ℕ) (left :
   pub turn_on : i < n → p (slot_of (block_at t i)) ≡ false → first_from p (i + 1) (slots_from t (i + 1) (n - (i + 1))) ≡ o
   turn_on more h = rw add-one (rw h at (turned more))
 
-  pub turn_found : i < n → p (slot_of (block_at t i)) ≡ true → some i ≡ o
+  pub turn_found : i < n → p (slot_of (block_at t i)) ≡ true → Some i ≡ o
   turn_found more h = rw h at (turned more)
 
-  pub turn_past : n ≤ i → none ≡ o
+  pub turn_past : n ≤ i → None ≡ o
   unfolding first_from slots_from
   turn_past past =
       let e : n - i ≡ 0 = omega arith in

@@ -1,7 +1,7 @@
 -- A table as its blocks, and which block is a key's. This page alone says where a key is.
 -- Assumes nothing.
 use Rattle.std.specs.Prelude.{◌≡◌, Bool, true, false, not, cond, ◌&&◌, List, [], ◌∷◌, ◌++◌, ℕ, zero, suc, ◌*◌, eqb, leb, ltb, length, get_or, take, drop}
-use Rattle.std.proofs.Math.Option.{Option, none, some}
+use Rattle.std.specs.Prelude.{Option, None, Some}
 use Rattle.leaf_fields.specs.Fields.{same}
 use Rattle.messages.specs.Message.{Key}
 use Rattle.messages.specs.Limits.{registers_most}
@@ -68,17 +68,17 @@ count p (s ∷ l) = cond (p s) (suc (count p l)) (count p l)
 
 -- the place of the first block that p holds of, the first place being i
 unfoldable pub first_from : (Slot → Bool) → ℕ → List Slot → Option ℕ
-first_from p i [] = none
-first_from p i (s ∷ l) = cond (p s) (some i) (first_from p (suc i) l)
+first_from p i [] = None
+first_from p i (s ∷ l) = cond (p s) (Some i) (first_from p (suc i) l)
 
 abbrev pub searched : Option ℕ → Search
-searched none = Search.Nothing
-searched (some i) = Search.At i
+searched None = Search.Nothing
+searched (Some i) = Search.At i
 
 abbrev pub found_by : Option ℕ → Option ℕ → Found
-found_by (some i) f = Found.At i
-found_by none (some i) = Found.Free i
-found_by none none = Found.Full
+found_by (Some i) f = Found.At i
+found_by None (Some i) = Found.Free i
+found_by None None = Found.Full
 
 -- where a key is: "two blocks hold the key"; the block that holds it; else "A new key takes the lowest free block"
 unfoldable pub where_is : Key → List Slot → Found

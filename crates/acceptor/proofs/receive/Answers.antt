@@ -3,7 +3,7 @@
 use mathlib.Core.Path.{◌≡◌, refl, sym, ◌∙◌}
 use mathlib.Core.Bool.{Bool, true, false}
 use mathlib.Core.List.{List}
-use mathlib.Core.Option.{none}
+use Rattle.std.specs.Prelude.{None}
 use Prim.Native.Nat.{ℕ}
 use lib.ListN.{length}
 use Rattle.messages.specs.declared.Address.{Address}
@@ -37,7 +37,7 @@ module _ (t : List ℕ) (n : ℕ) (a : List ℕ) (from : Address) (s : Bool) (es
     damaged : (m : Message) → s ≡ true → length a ≡ 256 → d ≡ false → Received t n a from m (Answer.Refused Refusal.Damaged) t a
     damaged m h la f = damage_refused t n a from m (sym es ∙ h) la (sym ed ∙ f)
 
-    foreign : (rpc kind : Rpc) (k v w l : List ℕ) → s ≡ true → length a ≡ 256 → d ≡ true → rpc ≡ kind → job_of (message_of kind k v w l) ≡ none → Received t n a from (message_of rpc k v w l) (Answer.Refused Refusal.WrongKind) t a
+    foreign : (rpc kind : Rpc) (k v w l : List ℕ) → s ≡ true → length a ≡ 256 → d ≡ true → rpc ≡ kind → job_of (message_of kind k v w l) ≡ None → Received t n a from (message_of rpc k v w l) (Answer.Refused Refusal.WrongKind) t a
     foreign rpc kind k v w l h la g e f = kind_refused t n a from (message_of rpc k v w l) (sym es ∙ h) la (sym ed ∙ g) (rw e f)
 
 as_message : (t : List ℕ) (n : ℕ) (a : List ℕ) (from : Address) (rpc kind : Rpc) (k v w l : List ℕ) (m : Message) (r : Answer) (t' a' : List ℕ) → rpc ≡ kind → Received t n a from m r t' a' → m ≡ message_of kind k v w l → Received t n a from (message_of rpc k v w l) r t' a'

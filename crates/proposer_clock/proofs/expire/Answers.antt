@@ -2,7 +2,7 @@
 -- Assumes nothing.
 use mathlib.Core.Path.{◌≡◌, sym, ap, ◌∙◌}
 use mathlib.Core.Bool.{true}
-use mathlib.Core.Option.{none}
+use Rattle.std.specs.Prelude.{None}
 use mathlib.Core.List.{List, [], ◌∷◌}
 use Prim.Native.Nat.{ℕ, ◌+◌, ◌*◌, ◌≤◌, ◌<◌}
 use native.Mathlib.Numerals.{add-one}
@@ -48,7 +48,7 @@ row_room a w n t k a' w' here more = omega (arith, here.size)
 
 -- ---- the turns
 
-one_more : (a w : List ℕ) (n t k : ℕ) (a' w' : List ℕ) (i : ℕ) (f : Front) (a₁ w₁ : List ℕ) → Expiring a w n t k a' w' → i ≡ late_of (read_area a' n) t (read_places a' header_bytes n) → (i ≡ n → ⊥) → i ≤ n → f ≡ front_of (read_pending (place_in a' i)) → w₁ ≡ sets w' (rows_at + row_bytes * k) (rows_bytes (record { client = f.client; id = f.id } ∷ [])) → a₁ ≡ sets a' (place_at i) (place_image none) → Expiring a w n t (k + 1) a₁ w₁
+one_more : (a w : List ℕ) (n t k : ℕ) (a' w' : List ℕ) (i : ℕ) (f : Front) (a₁ w₁ : List ℕ) → Expiring a w n t k a' w' → i ≡ late_of (read_area a' n) t (read_places a' header_bytes n) → (i ≡ n → ⊥) → i ≤ n → f ≡ front_of (read_pending (place_in a' i)) → w₁ ≡ sets w' (rows_at + row_bytes * k) (rows_bytes (record { client = f.client; id = f.id } ∷ [])) → a₁ ≡ sets a' (place_at i) (place_image None) → Expiring a w n t (k + 1) a₁ w₁
 one_more a w n t k a' w' i f a₁ w₁ here ei other within ef ew ea = rw add-one (expire_goes_on a w n t k a' w' here i f a₁ w₁ ei (omega (arith, other, within)) ef ew ea)
 
 abbrev Dropped : (a w : List ℕ) (n t k : ℕ) (a' w' : List ℕ) → Type 0

@@ -3,7 +3,7 @@
 use mathlib.Core.Path.{◌≡◌, refl}
 use mathlib.Core.Bool.{Bool, true, false, not, cond, ◌&&◌}
 use mathlib.Core.List.{List, ◌∷◌}
-use mathlib.Core.Option.{Option, none, some}
+use Rattle.std.specs.Prelude.{Option, None, Some}
 use Prim.Native.Nat.{ℕ, ◌+◌, ◌-◌, ◌≤◌, ◌<◌}
 use native.Mathlib.Nat.{sub-zero}
 use borrow.Author.Tests.{not-true, not-false}
@@ -21,7 +21,7 @@ turn_of : (b : List ℕ) (l : List (Option Pending)) → distinct (ballots_of (r
 unfolding distinct ballots_of read_place
 turn_of b l = go (eqb (byte b 0) 0)
   where
-    go : (z : Bool) → distinct (ballots_of (cond z none (some (read_pending b)) ∷ l)) ≡ cond z (distinct (ballots_of l)) (not (listed (read_pending b).ballot.0 (ballots_of l)) && distinct (ballots_of l))
+    go : (z : Bool) → distinct (ballots_of (cond z None (Some (read_pending b)) ∷ l)) ≡ cond z (distinct (ballots_of l)) (not (listed (read_pending b).ballot.0 (ballots_of l)) && distinct (ballots_of l))
     go true = refl
     go false = refl
 

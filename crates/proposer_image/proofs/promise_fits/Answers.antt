@@ -3,7 +3,7 @@
 use mathlib.Core.Path.{◌≡◌, refl, ap, ◌∙◌}
 use mathlib.Core.Bool.{true, not}
 use mathlib.Core.List.{List}
-use mathlib.Core.Option.{Option, none, some}
+use Rattle.std.specs.Prelude.{Option, None, Some}
 use Prim.Native.Nat.{ℕ}
 use lib.Dec.{eqb}
 use Rattle.messages.specs.declared.Ballot.{Ballot}
@@ -18,12 +18,12 @@ use Rattle.proposer_image.proofs.promise_fits.Goals as goal
 
 -- a promise by its mark
 by_mark : (p : Ballot) (v : Option Value) (m : OptionValue) → m ≡ marked v → m ≡ OptionValue.None → true ≡ promise_fits p v
-by_mark p none m e h = refl
-by_mark p (some v) m e h = cc
+by_mark p None m e h = refl
+by_mark p (Some v) m e h = cc
 
 by_ballot : (p : Ballot) (v : Option Value) (m : OptionValue) → m ≡ marked v → m ≡ OptionValue.Some → not (eqb p.0 0) ≡ promise_fits p v
-by_ballot p none m e h = cc
-by_ballot p (some v) m e h = refl
+by_ballot p None m e h = cc
+by_ballot p (Some v) m e h = refl
 
 no_value : (b : List ℕ) (f : Front) → TakenFrom b f → f.mark ≡ OptionValue.None → true ≡ promise_fits (read_pending b).promised (read_pending b).value
 unfolding front_of

@@ -3,7 +3,7 @@
 use mathlib.Core.Path.{◌≡◌, ap, ◌∙◌}
 use mathlib.Core.Bool.{Bool, true}
 use mathlib.Core.List.{List, ◌++◌}
-use mathlib.Core.Option.{some}
+use Rattle.std.specs.Prelude.{Some}
 use Prim.Native.Nat.{ℕ, ◌+◌, ◌*◌, ◌≤◌}
 use lib.ListN.{length, length-take}
 use Rattle.leaf_fields.specs.Fields.{span, same, Bytes}
@@ -47,7 +47,7 @@ module _ (b : List ℕ) (f : Front) (taken : TakenFrom b f) (fit : sizes_fit (re
   promised_short : length (span b 720 (720 + f.value_len)) ≤ 256
   promised_short = short_part b 720 f.value_len 256 taken.promised
 
-again : (b n : List ℕ) (f : Front) (r : Bool) → Bytes b → TakenFrom b f → sizes_fit (read_pending b) ≡ true → n ≡ place_rows (front_bytes f) (span b 52 (52 + 2 * f.waiting_for)) (span b 82 (82 + 2 * f.acks_from)) (span b 112 (112 + 2 * f.nacks_from)) (span b 144 (144 + f.key_len)) ((span b 208 (208 + f.first_len)) ++ (span b (208 + f.first_len) (208 + f.first_len + f.second_len))) (span b 720 (720 + f.value_len)) → r ≡ same b n → r ≡ same b (place_image (some (read_pending b)))
+again : (b n : List ℕ) (f : Front) (r : Bool) → Bytes b → TakenFrom b f → sizes_fit (read_pending b) ≡ true → n ≡ place_rows (front_bytes f) (span b 52 (52 + 2 * f.waiting_for)) (span b 82 (82 + 2 * f.acks_from)) (span b 112 (112 + 2 * f.nacks_from)) (span b 144 (144 + f.key_len)) ((span b 208 (208 + f.first_len)) ++ (span b (208 + f.first_len) (208 + f.first_len + f.second_len))) (span b 720 (720 + f.value_len)) → r ≡ same b n → r ≡ same b (place_image (Some (read_pending b)))
 again b n f r bytes taken fit en er = er ∙ ap (same b) (en ∙ written_again b f taken bytes fit)
 
 -- the bytes of a slice are bytes

@@ -3,7 +3,7 @@
 use mathlib.Core.Path.{◌≡◌, sym, ap, ◌∙◌}
 use mathlib.Core.Bool.{Bool, true, false, ◌&&◌}
 use mathlib.Core.List.{List}
-use mathlib.Core.Option.{some}
+use Rattle.std.specs.Prelude.{Some}
 use Prim.Native.Nat.{ℕ, ◌+◌, ◌≤◌, ◌<◌}
 use borrow.Author.Tests.{le-leb, lt-leb, not-true, not-false}
 use lib.Dec.{leb}
@@ -27,7 +27,7 @@ module _ (b : List ℕ) (c : ℕ) (r : Bool) (er : r ≡ sizes_fit (read_pending
   unfolding used_good
   no_size tr = rw (← er, tr)
 
-  module _ (tr : r ≡ true) (s : Bool) (es : s ≡ same b (place_image (some (read_pending b)))) where
+  module _ (tr : r ≡ true) (s : Bool) (es : s ≡ same b (place_image (Some (read_pending b)))) where
     other_bytes : s ≡ false → false ≡ used_good c b
     unfolding used_good
     other_bytes ts = rw (← er, tr, ← es, ts)

@@ -3,7 +3,7 @@
 use mathlib.Core.Path.{◌≡◌, refl, sym}
 use mathlib.Core.Bool.{false}
 use mathlib.Core.List.{List, []}
-use mathlib.Core.Option.{none}
+use Rattle.std.specs.Prelude.{None}
 use Prim.Native.Nat.{ℕ, ◌+◌, ◌-◌, ◌*◌, ◌^◌, ◌≤◌, ◌<◌}
 use lib.ListN.{length, take, drop}
 use Rattle.messages.specs.declared.OptionValue.{OptionValue}
@@ -23,7 +23,7 @@ use Rattle.proposer_request.proofs.request.Goals as goal
 use Rattle.proposer_request.proofs.request.Goals.{Start}
 
 -- the lowest free place is free
-free_there : (a : List ℕ) (n i : ℕ) → Held a n → i ≡ free_of (read_places a 80 n) → i < n → place_in a i ≡ place_image none
+free_there : (a : List ℕ) (n i : ℕ) → Held a n → i ≡ free_of (read_places a 80 n) → i < n → place_in a i ≡ place_image None
 unfolding read_area
 free_there a n i held e lt = free_place a n held i lt (free_some (read_places a 80 n) i (sym e) (omega (arith, lt, held.lawful.full))).there
 

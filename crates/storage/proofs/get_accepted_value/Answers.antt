@@ -3,7 +3,7 @@
 use mathlib.Core.Path.{◌≡◌, refl, ◌∙◌}
 use mathlib.Core.Bool.{true}
 use mathlib.Core.List.{List}
-use mathlib.Core.Option.{Option, none, some}
+use Rattle.std.specs.Prelude.{Option, None, Some}
 use Prim.Native.Nat.{ℕ, ◌+◌, ◌-◌, ◌*◌, ◌≤◌}
 use borrow.Author.Tests.{eq-eqb, ne_eqb}
 use lib.ListN.{length, take, drop}
@@ -38,18 +38,18 @@ module _ (t : List ℕ) (n : ℕ) (k a : List ℕ) (la : length a ≡ 256) where
 
   module _ (p : Place) (ep : p ≡ place_of t n k) where
     refused : (x : Refusal) → p ≡ Place.Refused x → ValueGot t n k a (GotValue.Refused x) a
-    refused x e = got (some x) (register_on t n k).value (GotValue.Refused x) a (refused_of t n k p ep x e) refl refl refl
+    refused x e = got (Some x) (register_on t n k).value (GotValue.Refused x) a (refused_of t n k p ep x e) refl refl refl
 
     module _ (f : Found) (e : p ≡ Place.Known f) where
       present : (i : ℕ) (r : GotValue) (a' : List ℕ) → f ≡ Found.At i → r ≡ value_answer (register_of (take (i * 512 + 512 - i * 512) (drop (i * 512) t))).value → a' ≡ sets a 0 (bytes_of (register_of (take (i * 512 + 512 - i * 512) (drop (i * 512) t))).value) → ValueGot t n k a r a'
       present i r a' ei er ea =
           let w = known_of t n k p ep f e in
-          got none (register_of (block_at t i)).value r a' w.due (rw (register_here t n k i w.lent (w.here ∙ ei))) (rw lent_block at er) (rw lent_block at ea)
+          got None (register_of (block_at t i)).value r a' w.due (rw (register_here t n k i w.lent (w.here ∙ ei))) (rw lent_block at er) (rw lent_block at ea)
 
       absent : (g : Found) → f ≡ g → register_by k (slots t n) g ≡ fresh k → ValueGot t n k a GotValue.None a
       absent g eg er =
           let w = known_of t n k p ep f e in
-          got none none GotValue.None a w.due (rw (register_on_lem t n k g (w.here ∙ eg), er)) refl refl
+          got None None GotValue.None a w.due (rw (register_on_lem t n k g (w.here ∙ eg), er)) refl refl
 
 lent_readable : (t : List ℕ) (n : ℕ) (k : List ℕ) (p : Place) (f : Found) (i : ℕ) → p ≡ place_of t n k → p ≡ Place.Known f → f ≡ Found.At i → readable (take (i * 512 + 512 - i * 512) (drop (i * 512) t)) ≡ true
 lent_readable t n k p f i ep e ei = rw lent_block (readable_of t n k p ep f i e ei)

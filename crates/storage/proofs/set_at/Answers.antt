@@ -3,7 +3,7 @@
 use mathlib.Core.Path.{◌≡◌, refl}
 use mathlib.Core.Bool.{true}
 use mathlib.Core.List.{List}
-use mathlib.Core.Option.{Option, none, some}
+use Rattle.std.specs.Prelude.{Option, None, Some}
 use Prim.Native.Nat.{ℕ, ◌+◌, ◌-◌, ◌*◌}
 use borrow.Rule.Slice.PartMut as part
 use lib.ListN.{take, drop}
@@ -25,8 +25,8 @@ in_table : (r : Register) (t ys : List ℕ) (i : ℕ) (d : Done) → RegisterSet
 in_table r t ys i d h = record { done = h.done; table = rw (put_mid, h.block) (by (first_due (register_tests r))) }
   where
     by : (o : Option Refusal) → with_block t i (block_by o (block_at t i) (image r)) ≡ block_by o t (with_block t i (image r))
-    by none = refl
-    by (some x) = same_block t i
+    by None = refl
+    by (Some x) = same_block t i
 
 placed : (t ys key bytes : List ℕ) (i : ℕ) (change : Change) (d : Done) → RegisterSet (changed change bytes (register_with key (take (i * 512 + 512 - i * 512) (drop (i * 512) t)))) (take (i * 512 + 512 - i * 512) (drop (i * 512) t)) d ys → BlockSet (changed change bytes (register_with key (block_at t i))) t i d (part.put_mid (i * 512) (i * 512 + 512 - i * 512) t ys)
 placed t ys key bytes i change d h = in_table (changed change bytes (register_with key (block_at t i))) t ys i d (rw lent_block at h)

@@ -3,7 +3,7 @@
 use mathlib.Core.Path.{◌≡◌, refl, sym, ◌∙◌}
 use mathlib.Core.Bool.{true}
 use mathlib.Core.List.{List}
-use mathlib.Core.Option.{Option, none, some}
+use Rattle.std.specs.Prelude.{Option, None, Some}
 use Prim.Native.Nat.{ℕ}
 use lib.ListN.{replicate, length-replicate}
 use Rattle.leaf_fields.specs.Laws.{zeros_zero}
@@ -22,12 +22,12 @@ unfolding readable
 spare_readable = rw (zeros_zero 512)
 
 taken : (o : Option Refusal) → Done.Stored ≡ done_by o → Done.Refused Refusal.NoRoom ≡ or_no_room o
-taken none e = refl
-taken (some x) e = cc
+taken None e = refl
+taken (Some x) e = cc
 
 kept_out : (o : Option Refusal) (x : Refusal) → Done.Refused x ≡ done_by o → Done.Refused x ≡ or_no_room o
-kept_out none x e = cc
-kept_out (some y) x e = e
+kept_out None x e = cc
+kept_out (Some y) x e = e
 
 module _ (key bytes n : List ℕ) (change : Change) (d : Done) (s : RegisterSet (changed change bytes (register_with key (replicate 512 0))) (replicate 512 0) d n) where
   -- the answer of a fresh register

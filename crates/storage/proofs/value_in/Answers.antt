@@ -1,7 +1,7 @@
 -- `storage::value_in` meets its contract: the mark says whether there is a value, and its bytes are copied.
 -- Assumes nothing.
 use mathlib.Core.Path.{◌≡◌, refl, ap}
-use mathlib.Core.Option.{Option, none, some}
+use Rattle.std.specs.Prelude.{Option, None, Some}
 use Prim.Native.Nat.{ℕ}
 use lib.ListN.{length}
 use Rattle.messages.specs.declared.OptionValue.{OptionValue}
@@ -13,12 +13,12 @@ use borrow.Author.Rules.{rules}
 use Rattle.storage.proofs.value_in.Goals as goal
 
 absent : (o : Option Value) (m : OptionValue) → m ≡ marked o → m ≡ OptionValue.None → GotValue.None ≡ value_answer o
-absent none m e h = refl
-absent (some v) m e h = cc
+absent None m e h = refl
+absent (Some v) m e h = cc
 
 present : (o : Option Value) (m : OptionValue) (n : ℕ) → n ≡ length (bytes_of o) → m ≡ marked o → m ≡ OptionValue.Some → GotValue.Some n ≡ value_answer o
-present none m n en e h = cc
-present (some v) m n en e h = ap GotValue.Some en
+present None m n en e h = cc
+present (Some v) m n en e h = ap GotValue.Some en
 
 pub returns-in-None : goal.returns-in-None
 returns-in-None c = (search absent, search rules)

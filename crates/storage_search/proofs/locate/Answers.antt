@@ -3,7 +3,7 @@
 use mathlib.Core.Path.{◌≡◌}
 use mathlib.Core.Bool.{false}
 use mathlib.Core.List.{List}
-use mathlib.Core.Option.{Option, none, some}
+use Rattle.std.specs.Prelude.{Option, None, Some}
 use Prim.Native.Nat.{ℕ, suc, ◌+◌, ◌-◌, ◌≤◌}
 use native.Mathlib.Nat.{sub-zero, zero-add}
 use native.Mathlib.Numerals.{add-one}
@@ -19,13 +19,13 @@ use native.Mathlib.Omega.{arith}
 use Rattle.storage_search.proofs.locate.Goals as goal
 
 -- what an answer of a search says
-answer_at : (o : Option ℕ) (r : Search) (i : ℕ) → r ≡ searched o → r ≡ Search.At i → o ≡ some i
-answer_at none r i e h = cc
-answer_at (some j) r i e h = cc
+answer_at : (o : Option ℕ) (r : Search) (i : ℕ) → r ≡ searched o → r ≡ Search.At i → o ≡ Some i
+answer_at None r i e h = cc
+answer_at (Some j) r i e h = cc
 
-answer_nothing : (o : Option ℕ) (r : Search) → r ≡ searched o → r ≡ Search.Nothing → o ≡ none
-answer_nothing none r e h = cc
-answer_nothing (some j) r e h = cc
+answer_nothing : (o : Option ℕ) (r : Search) → r ≡ searched o → r ≡ Search.Nothing → o ≡ None
+answer_nothing None r e h = cc
+answer_nothing (Some j) r e h = cc
 
 module _ (t key : List ℕ) (n : ℕ) where
   abbrev first_holder : Option ℕ
@@ -39,12 +39,12 @@ module _ (t key : List ℕ) (n : ℕ) where
   whole = simp sub-zero
 
   -- those behind the first are one less than all
-  count_later : (i : ℕ) → first_holder ≡ some i → count (holds key) (slots t n) ≡ suc (count (holds key) (slots_from t (i + 1) (n - (i + 1))))
+  count_later : (i : ℕ) → first_holder ≡ Some i → count (holds key) (slots t n) ≡ suc (count (holds key) (slots_from t (i + 1) (n - (i + 1))))
   unfolding slots
   count_later i e = rw add-one (rw zero-add at (count_first (holds key) t 0 n i e))
 
   module _ (r : Search) (er : r ≡ searched (first_from (holds key) 0 (slots_from t 0 (n - 0)))) where
-    first_at : (i : ℕ) → r ≡ Search.At i → first_holder ≡ some i
+    first_at : (i : ℕ) → r ≡ Search.At i → first_holder ≡ Some i
     first_at i h = answer_at first_holder r i (rw whole at er) h
 
     room_behind : (i : ℕ) → r ≡ Search.At i → i + 1 ≤ n
@@ -64,7 +64,7 @@ module _ (t key : List ℕ) (n : ℕ) where
         let all = count_later i (first_at i h) in
         rw (le-ltb 1 (count (holds key) (slots t n)) (omega arith), first_at i h)
 
-    no_holder : r ≡ Search.Nothing → first_holder ≡ none
+    no_holder : r ≡ Search.Nothing → first_holder ≡ None
     no_holder h = answer_nothing first_holder r (rw whole at er) h
 
     none_holds : r ≡ Search.Nothing → ltb 1 (count (holds key) (slots t n)) ≡ false

@@ -2,7 +2,7 @@
 -- Assumes nothing.
 use mathlib.Core.Path.{◌≡◌, ap, ◌∙◌}
 use mathlib.Core.List.{List, [], ◌++◌}
-use mathlib.Core.Option.{none}
+use Rattle.std.specs.Prelude.{None}
 use Prim.Native.Nat.{ℕ, ◌+◌, ◌-◌, ◌*◌, ◌≤◌}
 use borrow.Rule.Slice.PartMut.{put_mid}
 use lib.ListN.{length, take, drop, replicate}
@@ -16,7 +16,7 @@ use Rattle.proposer_area.specs.PlaceLent.{lent_bytes, put_place}
 use borrow.Author.Rules.{rules}
 use Rattle.proposer_area.proofs.places.fill_place.Goals as goal
 
-zeros : (a : List ℕ) (i : ℕ) → place_in a i ≡ place_image none → take (80 + 976 * i + 976 - (80 + 976 * i)) (drop (80 + 976 * i) a) ≡ replicate 976 0
+zeros : (a : List ℕ) (i : ℕ) → place_in a i ≡ place_image None → take (80 + 976 * i + 976 - (80 + 976 * i)) (drop (80 + 976 * i) a) ≡ replicate 976 0
 unfolding place_image
 zeros a i free = lent_place_lem a i ∙ free
 

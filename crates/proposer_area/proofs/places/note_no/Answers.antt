@@ -2,7 +2,7 @@
 -- Assumes nothing.
 use mathlib.Core.Path.{◌≡◌}
 use mathlib.Core.List.{List}
-use mathlib.Core.Option.{some}
+use Rattle.std.specs.Prelude.{Some}
 use Prim.Native.Nat.{ℕ, ◌+◌, ◌-◌, ◌*◌, ◌≤◌, ◌<◌}
 use borrow.Rule.Slice.PartMut.{put_mid}
 use lib.ListN.{length, take, drop}
@@ -21,8 +21,8 @@ used = lent_has Used
 room_left : (a : List ℕ) (i : ℕ) → length (read_pending (place_in a i)).nacks_from < 15 → length (read_pending (take (80 + 976 * i + 976 - (80 + 976 * i)) (drop (80 + 976 * i) a))).nacks_from < 15
 room_left = lent_has (λ (b : List ℕ). length (read_pending b).nacks_from < 15)
 
-noted : (a ys : List ℕ) (i : ℕ) (from : Address) → place_at i + place_bytes ≤ length a → length ys ≡ length (take (80 + 976 * i + 976 - (80 + 976 * i)) (drop (80 + 976 * i) a)) → ys ≡ place_image (some (with_no (read_pending (take (80 + 976 * i + 976 - (80 + 976 * i)) (drop (80 + 976 * i) a))) from)) → put_mid (80 + 976 * i) (80 + 976 * i + 976 - (80 + 976 * i)) a ys ≡ sets a (place_at i) (place_image (some (with_no (read_pending (place_in a i)) from)))
-noted a ys i from = place_worked (λ (b : List ℕ). place_image (some (with_no (read_pending b) from))) a ys i
+noted : (a ys : List ℕ) (i : ℕ) (from : Address) → place_at i + place_bytes ≤ length a → length ys ≡ length (take (80 + 976 * i + 976 - (80 + 976 * i)) (drop (80 + 976 * i) a)) → ys ≡ place_image (Some (with_no (read_pending (take (80 + 976 * i + 976 - (80 + 976 * i)) (drop (80 + 976 * i) a))) from)) → put_mid (80 + 976 * i) (80 + 976 * i + 976 - (80 + 976 * i)) a ys ≡ sets a (place_at i) (place_image (Some (with_no (read_pending (place_in a i)) from)))
+noted a ys i from = place_worked (λ (b : List ℕ). place_image (Some (with_no (read_pending b) from))) a ys i
 
 pub note_no-requires : goal.note_no-requires
 note_no-requires c = (search used, search room_left)

@@ -2,7 +2,7 @@
 -- Assumes nothing.
 use mathlib.Core.Path.{◌≡◌, sym, ap, ◌∙◌}
 use mathlib.Core.List.{List}
-use mathlib.Core.Option.{some}
+use Rattle.std.specs.Prelude.{Some}
 use Prim.Native.Nat.{ℕ, ◌+◌, ◌-◌, ◌*◌, ◌≤◌, ◌<◌}
 use borrow.Rule.Slice.PartMut.{put_mid}
 use lib.ListN.{length, take, drop}
@@ -41,15 +41,15 @@ by_front : (a : List ℕ) (i : ℕ) (f : Front) (accepted : Ballot) (r : Bool) �
 unfolding front_of
 by_front a i f accepted r e er = sym (er ∙ ap (λ (g : Front). above accepted g.promised) e)
 
-kept : (a ys value : List ℕ) (i : ℕ) (f : Front) (from : Address) (accepted : Ballot) (mark : OptionValue) (r : Bool) → place_at i + place_bytes ≤ length a → f ≡ front_of (read_pending (place_in a i)) → r ≡ above accepted f.promised → r ≡ false → length ys ≡ length (take (80 + 976 * i + 976 - (80 + 976 * i)) (drop (80 + 976 * i) a)) → ys ≡ place_image (some (with_yes (read_pending (take (80 + 976 * i + 976 - (80 + 976 * i)) (drop (80 + 976 * i) a))) from (read_pending (take (80 + 976 * i + 976 - (80 + 976 * i)) (drop (80 + 976 * i) a))).promised (read_pending (take (80 + 976 * i + 976 - (80 + 976 * i)) (drop (80 + 976 * i) a))).value)) → put_mid (80 + 976 * i) (80 + 976 * i + 976 - (80 + 976 * i)) a ys ≡ sets a (place_at i) (place_image (some (promised_by (read_pending (place_in a i)) from accepted (given mark value))))
+kept : (a ys value : List ℕ) (i : ℕ) (f : Front) (from : Address) (accepted : Ballot) (mark : OptionValue) (r : Bool) → place_at i + place_bytes ≤ length a → f ≡ front_of (read_pending (place_in a i)) → r ≡ above accepted f.promised → r ≡ false → length ys ≡ length (take (80 + 976 * i + 976 - (80 + 976 * i)) (drop (80 + 976 * i) a)) → ys ≡ place_image (Some (with_yes (read_pending (take (80 + 976 * i + 976 - (80 + 976 * i)) (drop (80 + 976 * i) a))) from (read_pending (take (80 + 976 * i + 976 - (80 + 976 * i)) (drop (80 + 976 * i) a))).promised (read_pending (take (80 + 976 * i + 976 - (80 + 976 * i)) (drop (80 + 976 * i) a))).value)) → put_mid (80 + 976 * i) (80 + 976 * i + 976 - (80 + 976 * i)) a ys ≡ sets a (place_at i) (place_image (Some (promised_by (read_pending (place_in a i)) from accepted (given mark value))))
 kept a ys value i f from accepted mark r room e er h same noted =
     rw (by_front a i f accepted r e er, h)
-    (place_worked (λ (b : List ℕ). place_image (some (with_yes (read_pending (b)) from (read_pending (b)).promised (read_pending (b)).value))) a ys i room same noted)
+    (place_worked (λ (b : List ℕ). place_image (Some (with_yes (read_pending (b)) from (read_pending (b)).promised (read_pending (b)).value))) a ys i room same noted)
 
-taken_over : (a ys value : List ℕ) (i : ℕ) (f : Front) (from : Address) (accepted : Ballot) (mark : OptionValue) (r : Bool) → place_at i + place_bytes ≤ length a → f ≡ front_of (read_pending (place_in a i)) → r ≡ above accepted f.promised → r ≡ true → length ys ≡ length (take (80 + 976 * i + 976 - (80 + 976 * i)) (drop (80 + 976 * i) a)) → ys ≡ place_image (some (with_yes (read_pending (take (80 + 976 * i + 976 - (80 + 976 * i)) (drop (80 + 976 * i) a))) from accepted (given mark value))) → put_mid (80 + 976 * i) (80 + 976 * i + 976 - (80 + 976 * i)) a ys ≡ sets a (place_at i) (place_image (some (promised_by (read_pending (place_in a i)) from accepted (given mark value))))
+taken_over : (a ys value : List ℕ) (i : ℕ) (f : Front) (from : Address) (accepted : Ballot) (mark : OptionValue) (r : Bool) → place_at i + place_bytes ≤ length a → f ≡ front_of (read_pending (place_in a i)) → r ≡ above accepted f.promised → r ≡ true → length ys ≡ length (take (80 + 976 * i + 976 - (80 + 976 * i)) (drop (80 + 976 * i) a)) → ys ≡ place_image (Some (with_yes (read_pending (take (80 + 976 * i + 976 - (80 + 976 * i)) (drop (80 + 976 * i) a))) from accepted (given mark value))) → put_mid (80 + 976 * i) (80 + 976 * i + 976 - (80 + 976 * i)) a ys ≡ sets a (place_at i) (place_image (Some (promised_by (read_pending (place_in a i)) from accepted (given mark value))))
 taken_over a ys value i f from accepted mark r room e er h same noted =
     rw (by_front a i f accepted r e er, h)
-    (place_worked (λ (b : List ℕ). place_image (some (with_yes (read_pending (b)) from accepted (given mark value)))) a ys i room same noted)
+    (place_worked (λ (b : List ℕ). place_image (Some (with_yes (read_pending (b)) from accepted (given mark value)))) a ys i room same noted)
 
 pub note_yes-requires : goal.note_yes-requires
 note_yes-requires c = (search used, search room_left)

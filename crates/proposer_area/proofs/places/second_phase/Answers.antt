@@ -2,7 +2,7 @@
 -- Assumes nothing.
 use mathlib.Core.Path.{◌≡◌}
 use mathlib.Core.List.{List}
-use mathlib.Core.Option.{some}
+use Rattle.std.specs.Prelude.{Some}
 use Prim.Native.Nat.{ℕ, ◌+◌, ◌-◌, ◌*◌, ◌≤◌}
 use borrow.Rule.Slice.PartMut.{put_mid}
 use lib.ListN.{length, take, drop}
@@ -19,8 +19,8 @@ use Rattle.proposer_area.proofs.places.second_phase.Goals as goal
 used : (a : List ℕ) (i : ℕ) → Used (place_in a i) → Used (take (80 + 976 * i + 976 - (80 + 976 * i)) (drop (80 + 976 * i) a))
 used = lent_has Used
 
-begun : (a ys list : List ℕ) (i n : ℕ) → place_at i + place_bytes ≤ length a → length ys ≡ length (take (80 + 976 * i + 976 - (80 + 976 * i)) (drop (80 + 976 * i) a)) → ys ≡ place_image (some (second_phase (entries list 0 n) (read_pending (take (80 + 976 * i + 976 - (80 + 976 * i)) (drop (80 + 976 * i) a))))) → put_mid (80 + 976 * i) (80 + 976 * i + 976 - (80 + 976 * i)) a ys ≡ sets a (place_at i) (place_image (some (second_phase (entries list 0 n) (read_pending (place_in a i)))))
-begun a ys list i n = place_worked (λ (b : List ℕ). place_image (some (second_phase (entries list 0 n) (read_pending b)))) a ys i
+begun : (a ys list : List ℕ) (i n : ℕ) → place_at i + place_bytes ≤ length a → length ys ≡ length (take (80 + 976 * i + 976 - (80 + 976 * i)) (drop (80 + 976 * i) a)) → ys ≡ place_image (Some (second_phase (entries list 0 n) (read_pending (take (80 + 976 * i + 976 - (80 + 976 * i)) (drop (80 + 976 * i) a))))) → put_mid (80 + 976 * i) (80 + 976 * i + 976 - (80 + 976 * i)) a ys ≡ sets a (place_at i) (place_image (Some (second_phase (entries list 0 n) (read_pending (place_in a i)))))
+begun a ys list i n = place_worked (λ (b : List ℕ). place_image (Some (second_phase (entries list 0 n) (read_pending b)))) a ys i
 
 pub second_phase-requires : goal.second_phase-requires
 second_phase-requires c = (search used, search rules, search rules)

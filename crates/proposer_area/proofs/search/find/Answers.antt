@@ -3,7 +3,7 @@
 use mathlib.Core.Path.{◌≡◌, refl}
 use mathlib.Core.Bool.{Bool, true, false, not, cond, ◌&&◌}
 use mathlib.Core.List.{List, ◌∷◌}
-use mathlib.Core.Option.{Option, none, some}
+use Rattle.std.specs.Prelude.{Option, None, Some}
 use Prim.Native.Nat.{ℕ, suc, ◌+◌, ◌-◌, ◌≤◌, ◌<◌}
 use native.Mathlib.Nat.{zero-add, sub-zero}
 use lib.Dec.{eqb}
@@ -20,8 +20,8 @@ use Rattle.proposer_area.proofs.search.find.Goals as goal
 
 turn_of : (b : Ballot) (x : Option Pending) (l : List (Option Pending)) → place_of b (x ∷ l) ≡ cond (passes (is_ballot b) x) 0 (suc (place_of b l))
 unfolding place_of
-turn_of b none l = refl
-turn_of b (some p) l = refl
+turn_of b None l = refl
+turn_of b (Some p) l = refl
 
 module _ (a : List ℕ) (n i : ℕ) (b : Ballot) (o : ℕ) (left : i + place_of b (read_places a (place_at i) (n - i)) ≡ o) where
   turned : (r : Bool) → i < n → r ≡ (not (eqb (byte (lent_place a i) 0) 0) && is_ballot b (read_pending (lent_place a i))) → i + cond r 0 (suc (place_of b (read_places a (place_at (i + 1)) (n - (i + 1))))) ≡ o

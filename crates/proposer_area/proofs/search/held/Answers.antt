@@ -3,7 +3,7 @@
 use mathlib.Core.Path.{◌≡◌, refl}
 use mathlib.Core.Bool.{Bool, true, false, not, ◌&&◌, ◌||◌}
 use mathlib.Core.List.{List, ◌∷◌}
-use mathlib.Core.Option.{Option, none, some}
+use Rattle.std.specs.Prelude.{Option, None, Some}
 use Prim.Native.Nat.{ℕ, ◌+◌, ◌-◌, ◌≤◌, ◌<◌}
 use lib.Dec.{eqb}
 use Rattle.leaf_fields.specs.Fields.{byte}
@@ -18,8 +18,8 @@ use Rattle.proposer_area.proofs.search.held.Goals as goal
 
 turn_of : (b : Ballot) (x : Option Pending) (l : List (Option Pending)) → listed b.0 (ballots_of (x ∷ l)) ≡ (passes (is_ballot b) x || listed b.0 (ballots_of l))
 unfolding listed ballots_of
-turn_of b none l = refl
-turn_of b (some p) l = refl
+turn_of b None l = refl
+turn_of b (Some p) l = refl
 
 module _ (a : List ℕ) (n i : ℕ) (b : Ballot) (o : Bool) (left : listed b.0 (ballots_of (read_places a (place_at i) (n - i))) ≡ o) where
   turned : (r : Bool) → i < n → r ≡ (not (eqb (byte (lent_place a i) 0) 0) && is_ballot b (read_pending (lent_place a i))) → (r || listed b.0 (ballots_of (read_places a (place_at (i + 1)) (n - (i + 1))))) ≡ o

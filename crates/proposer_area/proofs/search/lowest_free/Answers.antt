@@ -3,7 +3,7 @@
 use mathlib.Core.Path.{◌≡◌, refl}
 use mathlib.Core.Bool.{Bool, true, false, cond}
 use mathlib.Core.List.{List, ◌∷◌}
-use mathlib.Core.Option.{Option, none, some}
+use Rattle.std.specs.Prelude.{Option, None, Some}
 use Prim.Native.Nat.{ℕ, suc, ◌+◌, ◌-◌, ◌≤◌, ◌<◌}
 use native.Mathlib.Nat.{zero-add, sub-zero}
 use lib.Dec.{eqb}
@@ -20,7 +20,7 @@ turn_of : (b : List ℕ) (l : List (Option Pending)) → free_of (read_place b �
 unfolding free_of read_place
 turn_of b l = go (eqb (byte b 0) 0)
   where
-    go : (z : Bool) → free_of (cond z none (some (read_pending b)) ∷ l) ≡ cond z 0 (suc (free_of l))
+    go : (z : Bool) → free_of (cond z None (Some (read_pending b)) ∷ l) ≡ cond z 0 (suc (free_of l))
     go true = refl
     go false = refl
 

@@ -3,7 +3,7 @@
 use mathlib.Core.Path.{◌≡◌, refl}
 use mathlib.Core.Bool.{Bool, true, false, not, ◌&&◌, ◌||◌}
 use mathlib.Core.List.{List, ◌∷◌}
-use mathlib.Core.Option.{Option, none, some}
+use Rattle.std.specs.Prelude.{Option, None, Some}
 use Prim.Native.Nat.{ℕ, ◌+◌, ◌-◌, ◌≤◌, ◌<◌}
 use native.Mathlib.Nat.{zero-add, sub-zero}
 use lib.Dec.{eqb, ltb}
@@ -18,8 +18,8 @@ use Rattle.proposer_clock.proofs.clock.clock_back.Goals as goal
 
 turn_of : (t : ℕ) (x : Option Pending) (l : List (Option Pending)) → clock_back t (x ∷ l) ≡ (passes (λ (p : Pending). ltb t p.received_at) x || clock_back t l)
 unfolding clock_back
-turn_of t none l = refl
-turn_of t (some p) l = refl
+turn_of t None l = refl
+turn_of t (Some p) l = refl
 
 module _ (a : List ℕ) (n i t : ℕ) (o : Bool) (left : clock_back t (read_places a (place_at i) (n - i)) ≡ o) where
   turned : (r : Bool) → i < n → r ≡ (not (eqb (byte (lent_place a i) 0) 0) && ltb t (read_pending (lent_place a i)).received_at) → (r || clock_back t (read_places a (place_at (i + 1)) (n - (i + 1)))) ≡ o

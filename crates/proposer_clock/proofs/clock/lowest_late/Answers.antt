@@ -3,7 +3,7 @@
 use mathlib.Core.Path.{◌≡◌, refl, sym, ◌∙◌}
 use mathlib.Core.Bool.{Bool, true, false, false≢true, not, cond, ◌&&◌, ◌||◌, and-false, or-true}
 use mathlib.Core.List.{List, ◌∷◌}
-use mathlib.Core.Option.{Option, none, some}
+use Rattle.std.specs.Prelude.{Option, None, Some}
 use Prim.Native.Nat.{ℕ, suc, ◌+◌, ◌-◌, ◌≤◌, ◌<◌}
 use borrow.Author.Tests.{eq-eqb, ne_eqb, lt-ltb, le-ltb, le-leb, leb-true, leb-false}
 use lib.Dec.{eqb, ltb, leb}
@@ -26,10 +26,10 @@ use Rattle.proposer_clock.proofs.clock.lowest_late.Invariants.{Lowest}
 
 early_turn : (s : Proposer) (t : ℕ) (x : Option Pending) (l : List (Option Pending)) → passes (late s t) x ≡ false → (late_of s t (x ∷ l) ≡ suc (late_of s t l)) × ((b : Ballot) → none_below s t b (x ∷ l) ≡ none_below s t b l)
 unfolding late_of none_below
-early_turn s t none l h = (refl, λ b. refl)
-early_turn s t (some p) l h = (rw h, λ b. rw h)
+early_turn s t None l h = (refl, λ b. refl)
+early_turn s t (Some p) l h = (rw h, λ b. rw h)
 
-late_turn : (s : Proposer) (t : ℕ) (p : Pending) (l : List (Option Pending)) → late s t p ≡ true → (late_of s t (some p ∷ l) ≡ cond (none_below s t p.ballot l) 0 (suc (late_of s t l))) × ((b : Ballot) → none_below s t b (some p ∷ l) ≡ (not (above b p.ballot) && none_below s t b l))
+late_turn : (s : Proposer) (t : ℕ) (p : Pending) (l : List (Option Pending)) → late s t p ≡ true → (late_of s t (Some p ∷ l) ≡ cond (none_below s t p.ballot l) 0 (suc (late_of s t l))) × ((b : Ballot) → none_below s t b (Some p ∷ l) ≡ (not (above b p.ballot) && none_below s t b l))
 unfolding late_of none_below
 late_turn s t p l h = (rw h, λ b. rw h)
 
@@ -79,7 +79,7 @@ module _ (a : List ℕ) (n t timeout found lowest i : ℕ) (inv : Lowest a n t f
       }
 
   module _ (r : Bool) (e : r ≡ (not (eqb (byte (lent_place a (i - 1)) 0) 0) && ltb timeout (t - (read_pending (lent_place a (i - 1))).received_at))) (h : r ≡ true) (q : Ballot) (eq : q ≡ (read_pending (lent_place a (i - 1))).ballot) where
-    used : (read_place (place_in a (i - 1)) ≡ some (read_pending (place_in a (i - 1)))) × (late (read_area a n) t (read_pending (place_in a (i - 1))) ≡ true)
+    used : (read_place (place_in a (i - 1)) ≡ Some (read_pending (place_in a (i - 1)))) × (late (read_area a n) t (read_pending (place_in a (i - 1))) ≡ true)
     used = used_place (late (read_area a n) t) (place_in a (i - 1)) (sym (tested r e) ∙ h)
 
     step : (late_of (read_area a n) t (read_places a (place_at (i - 1)) (n - (i - 1))) ≡ cond (eqb found n || leb q.0 lowest) 0 (suc (late_of (read_area a n) t (read_places a (place_at i) (n - i))))) × ((b : Ballot) → none_below (read_area a n) t b (read_places a (place_at (i - 1)) (n - (i - 1))) ≡ (not (above b q) && (eqb found n || leb b.0 lowest)))

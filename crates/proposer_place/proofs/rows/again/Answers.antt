@@ -2,7 +2,7 @@
 -- Assumes nothing.
 use mathlib.Core.Path.{◌≡◌, sym, ap, ◌∙◌}
 use mathlib.Core.List.{List}
-use mathlib.Core.Option.{some}
+use Rattle.std.specs.Prelude.{Some}
 use Prim.Native.Nat.{ℕ, ◌-◌, ◌*◌, ◌≤◌}
 use borrow.Rule.Slice.PartMut.{put_mid, same_len_mid}
 use lib.ListN.{length, take, drop, replicate, length-replicate}
@@ -27,7 +27,7 @@ small f r ballot n s few e =
     let fits : Small (anew f ballot n) = record { key = s.key; waited = omega arith; yeses = omega arith; noes = omega arith } in
     rw e fits
 
-entered : (l : List ℕ) → ((i : ℕ) → Fits w8 (byte l i)) → (b z z' n₂ n₃ : List ℕ) (n : ℕ) (ballot : Ballot) (f r : Front) → Used b → n ≤ 15 → length l ≡ 2 * n → f ≡ front_of (read_pending b) → z ≡ replicate (length (take (142 - 52) (drop 52 b))) 0 → z' ≡ replicate (length (take (976 - 720) (drop 720 (put_mid 52 (142 - 52) b z)))) 0 → n₂ ≡ sets (put_mid 720 (976 - 720) (put_mid 52 (142 - 52) b z) z') 52 l → r ≡ anew f ballot n → n₃ ≡ sets n₂ 0 (front_bytes r) → n₃ ≡ place_image (some (asked_again ballot (entries l 0 n) (read_pending b)))
+entered : (l : List ℕ) → ((i : ℕ) → Fits w8 (byte l i)) → (b z z' n₂ n₃ : List ℕ) (n : ℕ) (ballot : Ballot) (f r : Front) → Used b → n ≤ 15 → length l ≡ 2 * n → f ≡ front_of (read_pending b) → z ≡ replicate (length (take (142 - 52) (drop 52 b))) 0 → z' ≡ replicate (length (take (976 - 720) (drop 720 (put_mid 52 (142 - 52) b z)))) 0 → n₂ ≡ sets (put_mid 720 (976 - 720) (put_mid 52 (142 - 52) b z) z') 52 l → r ≡ anew f ballot n → n₃ ≡ sets n₂ 0 (front_bytes r) → n₃ ≡ place_image (Some (asked_again ballot (entries l 0 n) (read_pending b)))
 unfolding Bytes
 entered l known b z z' n₂ n₃ n ballot f r u few full ef ez ez' e₂ er e₃ =
     let p = read_pending b in
@@ -37,7 +37,7 @@ entered l known b z z' n₂ n₃ n ballot f r u few full ef ez ez' e₂ er e₃ 
     let bytes : Bytes l = λ i. omega (arith, known i) in
     let cleared : z ≡ replicate 90 0 = ez ∙ ap (λ (k : ℕ). replicate k 0) (length-part b 52 90 (omega (arith, used_length b u))) in
     let cleared' : z' ≡ replicate 256 0 = ez' ∙ ap (λ (k : ℕ). replicate k 0) (length-part m 720 256 (omega (arith, used_length b u))) in
-    let lists : m ≡ put_mid 52 90 (place_image (some p)) (replicate 90 0) =
+    let lists : m ≡ put_mid 52 90 (place_image (Some p)) (replicate 90 0) =
     ap (put_mid 52 90 b) cleared ∙ ap (λ (x : List ℕ). put_mid 52 90 x (replicate 90 0)) u.image in
     let front : front_bytes r ≡ place_front (asked_again ballot list p) =
     ap front_bytes (er ∙ ap (λ (g : Front). anew g ballot n) ef ∙ ap (anew (front_of p) ballot) (sym (entries-length l 0 n))) ∙ front_again p ballot list in

@@ -2,7 +2,7 @@
 -- Assumes nothing.
 use mathlib.Core.Path.{◌≡◌, ap, ◌∙◌}
 use mathlib.Core.List.{List}
-use mathlib.Core.Option.{some}
+use Rattle.std.specs.Prelude.{Some}
 use Prim.Native.Nat.{ℕ, ◌+◌, ◌-◌, ◌*◌, ◌≤◌, ◌<◌}
 use borrow.Rule.Slice.PartMut.{put_mid}
 use lib.ListN.{length, take, drop, replicate}
@@ -27,7 +27,7 @@ small b f r ballot mark n e few s er =
     let fits : Small (with_promise f ballot mark n) = record { key = s.key; waited = s.waited; yeses = omega (arith, few_yeses b f e few); noes = s.noes } in
     rw er fits
 
-noted : (b n₁ z n₂ n₃ s v : List ℕ) (f r : Front) (from : Address) (ballot : Ballot) (mark : OptionValue) → Used b → length (read_pending b).acks_from < 15 → length (bytes_of (given mark v)) ≤ 256 → f ≡ front_of (read_pending b) → s ≡ bytes_of (given mark v) → n₁ ≡ sets b (82 + 2 * f.acks_from) (to_le 2 from.0) → z ≡ replicate (length (take (976 - 720) (drop 720 n₁))) 0 → n₂ ≡ sets (put_mid 720 (976 - 720) n₁ z) 720 s → r ≡ with_promise f ballot mark (length s) → n₃ ≡ sets n₂ 0 (front_bytes r) → n₃ ≡ place_image (some (with_yes (read_pending b) from ballot (given mark v)))
+noted : (b n₁ z n₂ n₃ s v : List ℕ) (f r : Front) (from : Address) (ballot : Ballot) (mark : OptionValue) → Used b → length (read_pending b).acks_from < 15 → length (bytes_of (given mark v)) ≤ 256 → f ≡ front_of (read_pending b) → s ≡ bytes_of (given mark v) → n₁ ≡ sets b (82 + 2 * f.acks_from) (to_le 2 from.0) → z ≡ replicate (length (take (976 - 720) (drop 720 n₁))) 0 → n₂ ≡ sets (put_mid 720 (976 - 720) n₁ z) 720 s → r ≡ with_promise f ballot mark (length s) → n₃ ≡ sets n₂ 0 (front_bytes r) → n₃ ≡ place_image (Some (with_yes (read_pending b) from ballot (given mark v)))
 unfolding front_of
 noted b n₁ z n₂ n₃ s v f r from ballot mark u few short ef es e₁ ez e₂ er e₃ =
     let p = read_pending b in
@@ -36,7 +36,7 @@ noted b n₁ z n₂ n₃ s v f r from ballot mark u few short ef es e₁ ez e₂
     let zeros : List ℕ = replicate 256 0 in
     let front : front_bytes r ≡ place_front (with_yes p from ballot o) =
     ap front_bytes (er ∙ ap (λ (g : Front). with_promise g ballot mark (length s)) ef ∙ ap (λ (x : List ℕ). with_promise (front_of p) ballot mark (length x)) es) ∙ front_promise p from ballot mark v in
-    let listed : n₁ ≡ sets (place_image (some p)) at (to_le 2 from.0) =
+    let listed : n₁ ≡ sets (place_image (Some p)) at (to_le 2 from.0) =
     e₁ ∙ ap (λ (g : Front). sets b (82 + 2 * g.acks_from) (to_le 2 from.0)) ef ∙ ap (λ (x : List ℕ). sets x at (to_le 2 from.0)) u.image in
     let cleared : z ≡ zeros = ez ∙ ap (λ (k : ℕ). replicate k 0) (length-part n₁ 720 256 (omega (arith, used_stored b n₁ (to_le 2 from.0) (82 + 2 * f.acks_from) u e₁))) in
     e₃ ∙ ap (sets n₂ 0) front

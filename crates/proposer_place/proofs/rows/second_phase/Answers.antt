@@ -2,7 +2,7 @@
 -- Assumes nothing.
 use mathlib.Core.Path.{◌≡◌, sym, ap, ◌∙◌}
 use mathlib.Core.List.{List}
-use mathlib.Core.Option.{some}
+use Rattle.std.specs.Prelude.{Some}
 use Prim.Native.Nat.{ℕ, ◌-◌, ◌*◌, ◌≤◌}
 use borrow.Rule.Slice.PartMut.{put_mid}
 use lib.ListN.{length, take, drop, replicate}
@@ -26,7 +26,7 @@ small f r n s few e =
     let fits : Small (in_second f n) = record { key = s.key; waited = omega arith; yeses = omega arith; noes = omega arith } in
     rw e fits
 
-entered : (l : List ℕ) → ((i : ℕ) → Fits w8 (byte l i)) → (b z n₂ n₃ : List ℕ) (n : ℕ) (f r : Front) → Used b → n ≤ 15 → length l ≡ 2 * n → f ≡ front_of (read_pending b) → z ≡ replicate (length (take (142 - 52) (drop 52 b))) 0 → n₂ ≡ sets (put_mid 52 (142 - 52) b z) 52 l → r ≡ in_second f n → n₃ ≡ sets n₂ 0 (front_bytes r) → n₃ ≡ place_image (some (second_phase (entries l 0 n) (read_pending b)))
+entered : (l : List ℕ) → ((i : ℕ) → Fits w8 (byte l i)) → (b z n₂ n₃ : List ℕ) (n : ℕ) (f r : Front) → Used b → n ≤ 15 → length l ≡ 2 * n → f ≡ front_of (read_pending b) → z ≡ replicate (length (take (142 - 52) (drop 52 b))) 0 → n₂ ≡ sets (put_mid 52 (142 - 52) b z) 52 l → r ≡ in_second f n → n₃ ≡ sets n₂ 0 (front_bytes r) → n₃ ≡ place_image (Some (second_phase (entries l 0 n) (read_pending b)))
 unfolding Bytes
 entered l known b z n₂ n₃ n f r u few full ef ez e₂ er e₃ =
     let p = read_pending b in
