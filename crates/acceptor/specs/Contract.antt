@@ -1,15 +1,14 @@
 -- The acceptor's contract: the rules on the blocks of a lent table, and every byte of the table and of the answer area after them.
 -- Assumes nothing.
-use Rattle.std.specs.Prelude.{◌≡◌, Bool, not, cond, ◌&&◌, List, [], ◌∷◌, ℕ, eqb, length}
+use Rattle.std.specs.Prelude.{◌≡◌, not, cond, ◌&&◌, List, [], ◌∷◌, ℕ, eqb, length}
 use Rattle.messages.specs.declared.Address.{Address}
 use Rattle.messages.specs.declared.answer.Answer.{Answer}
 use Rattle.messages.specs.declared.answer.Refusal.{Refusal}
 use Rattle.messages.specs.Message.{Message}
-use Rattle.messages.specs.Limits.{within_limits}
 use Rattle.messages.specs.Refusals.{Test, test, first_due}
 use Rattle.messages.specs.Answers.{one, said, answer_of, written_in}
 use Rattle.storage_block.specs.Block.{image}
-use Rattle.storage_search.specs.Table.{is_sized, Lent, with_block, slots}
+use Rattle.storage_search.specs.Table.{is_sized, with_block, slots}
 use Rattle.acceptor_rules.specs.Rules.{Work, Store, keep, put, Outcome, unless, receive}
 use Rattle.acceptor_work.specs.Contract.{answer_bytes}
 
@@ -35,12 +34,7 @@ pub record Received (t : List ℕ) (n : ℕ) (a : List ℕ) (from : Address) (m 
 
 -- ---- for the functions below the public one
 
--- a table that may be searched, and whether the message is within the limits
-pub record Ready (t : List ℕ) (n : ℕ) (from : Address) (m : Message) (fits : Bool) : Type 0 where
-  pub lent : Lent t n
-  pub limits : fits ≡ within_limits from m
-
--- a work done on block i of the table, if the message is within the limits
-pub record Placed (w : Work) (fits : Bool) (from : Address) (t : List ℕ) (i : ℕ) (r : Answer) (t' : List ℕ) : Type 0 where
-  pub answer : r ≡ cond fits (answer_of (one from w.answer)) (Answer.Refused Refusal.OverLimit)
-  pub table : t' ≡ cond (fits && w.stores) (with_block t i (image w.next)) t
+-- a work done on block i of the table
+pub record Placed (w : Work) (from : Address) (t : List ℕ) (i : ℕ) (r : Answer) (t' : List ℕ) : Type 0 where
+  pub answer : r ≡ answer_of (one from w.answer)
+  pub table : t' ≡ cond w.stores (with_block t i (image w.next)) t

@@ -12,7 +12,7 @@ use Rattle.leaf_fields.specs.Laws.{and_true, same-true, bytes_take, bytes_drop, 
 use Rattle.messages.specs.declared.Address.{Address}
 use Rattle.messages.specs.declared.Ballot.{Ballot}
 use Rattle.messages.specs.declared.answer.Refusal.{Refusal}
-use Rattle.messages.specs.Message.{Key, Value, Request, Failure, Result, Reply, Message}
+use Rattle.messages.specs.Message.{Key, Value, Request, Failure, Verdict, Reply, Message}
 use Rattle.messages.specs.Limits.{key_most, value_most, within_limits}
 use Rattle.messages.specs.Refusals.{test, first_due}
 use Rattle.messages.specs.Answers.{refused, bytes_of}
@@ -50,9 +50,9 @@ ProperFailure (Failure.AcceptRejected b) = ProperBallot b
 ProperFailure (Failure.CasFailed v) = ProperValue v
 ProperFailure Failure.Timeout = Unit {0}
 
-abbrev pub ProperResult : Result → Type 0
-ProperResult Result.Ok = Unit {0}
-ProperResult (Result.Err e) = ProperFailure e
+abbrev pub ProperResult : Verdict → Type 0
+ProperResult Verdict.Granted = Unit {0}
+ProperResult (Verdict.Denied e) = ProperFailure e
 
 abbrev pub ProperReply : Reply → Type 0
 ProperReply (Reply.Done v) = ProperValue v

@@ -4,7 +4,6 @@ use Rattle.std.specs.Prelude.{◌≡◌, refl, Bool, true, false, cond, List, �
 use borrow.Rule.Slice.PartMut as part
 use Rattle.messages.specs.declared.Address.{Address}
 use Rattle.messages.specs.declared.answer.Answer.{Answer}
-use Rattle.messages.specs.declared.answer.Refusal.{Refusal}
 use Rattle.storage_block.specs.Block.{image}
 use Rattle.storage_search.specs.Table.{block_at, with_block}
 use Rattle.storage_search.specs.Blocks.{put_mid, same_block}
@@ -14,13 +13,9 @@ use Rattle.acceptor.specs.Contract.{Placed}
 
 -- ---- a block that is lent on out of a table
 
--- a message over the limits leaves the table
-pub refused_placed : (w : Work) (from : Address) (t : List ℕ) (i : ℕ) (fits : Bool) → fits ≡ false → Placed w fits from t i (Answer.Refused Refusal.OverLimit) t
-refused_placed w from t i fits f = record { answer = rw f; table = rw f }
-
 -- what a work on the lent block is for the table
-pub work_placed : (w : Work) (from : Address) (t ys : List ℕ) (i : ℕ) (fits : Bool) (r : Answer) → fits ≡ true → Worked w from (block_at t i) r ys → Placed w fits from t i r (part.put_mid (i * 512) (i * 512 + 512 - i * 512) t ys)
-work_placed w from t ys i fits r f h = record { answer = rw f h.answer; table = rw (f, put_mid, h.block) (by w.stores) }
+pub work_placed : (w : Work) (from : Address) (t ys : List ℕ) (i : ℕ) (r : Answer) → Worked w from (block_at t i) r ys → Placed w from t i r (part.put_mid (i * 512) (i * 512 + 512 - i * 512) t ys)
+work_placed w from t ys i r h = record { answer = h.answer; table = rw (put_mid, h.block) (by w.stores) }
   where
     by : (s : Bool) → with_block t i (cond s (image w.next) (block_at t i)) ≡ cond s (with_block t i (image w.next)) t
     by true = refl

@@ -2,7 +2,7 @@
 -- Assumes nothing.
 use Rattle.std.specs.Prelude.{◌≡◌, Bool, not, List, [], ◌∷◌, ℕ, ◌+◌, ◌*◌, ◌≤◌, ◌<◌, eqb, length, get_or, take}
 use Rattle.std.proofs.Math.Path.{refl, ap}
-use Rattle.std.proofs.Common.{sym, ◌∙◌, arith}
+use Rattle.std.proofs.Common.{sym, ◌∙◌, arith, ◌⊎◌, inl, inr}
 use Rattle.std.proofs.Math.Bool.{true, false, cond}
 use Rattle.std.specs.Prelude.{Option, None, Some}
 use Rattle.std.proofs.lemmas.List.Edits.{sets}
@@ -13,7 +13,7 @@ use Rattle.messages.specs.declared.Ballot.{Ballot}
 use Rattle.messages.specs.declared.answer.Answer.{Answer}
 use Rattle.messages.specs.declared.answer.Refusal.{Refusal}
 use Rattle.messages.specs.Ballots.{above, not_below}
-use Rattle.messages.specs.Message.{Key, Value, Failure, Result, Message, given, result_of}
+use Rattle.messages.specs.Message.{Key, Value, Failure, Verdict, Message, given, result_of}
 use Rattle.messages.specs.Limits.{key_most, value_most, message_fits, within_limits}
 use Rattle.messages.specs.Fit.{short_key, register_key, register_value}
 use Rattle.messages.specs.Refusals.{test, first_due}
@@ -27,7 +27,7 @@ use Rattle.storage_search.specs.Blocks.{length_block}
 use Rattle.storage_search.specs.Keys.{place_known, place_free, room_in, readable_in, register_known, register_new}
 use Rattle.acceptor_rules.specs.Rules.{Work, proposed, accepted, Job, proposal, acceptance, job_of, keep, put, Outcome, outcome, work_on, unless, receive}
 use Rattle.acceptor_work.specs.Contract.{full_answer}
-use Rattle.acceptor.specs.Contract.{outcome_on, stored, Received, Ready, Placed}
+use Rattle.acceptor.specs.Contract.{outcome_on, stored, Received, Placed}
 
 -- ---- the outcome, by where the key is
 
@@ -65,6 +65,26 @@ module _ (t : List ℕ) (n : ℕ) (a : List ℕ) (from : Address) (m : Message) 
   unfolding receive
   new_outcome i w e ew lim = on_table ∙ rw (lent.sound, jm, e, lim, work_is (Found.Free i) w e ew)
 
+-- ---- the block that has the key or takes it
+
+abbrev pub Takes : List ℕ → ℕ → Key → ℕ → Type 0
+Takes t n k i = (where_is k (slots t n) ≡ Found.At i) ⊎ (where_is k (slots t n) ≡ Found.Free i)
+
+pub takes_in : (t : List ℕ) (n : ℕ) (k : Key) (i : ℕ) → Lent t n → Takes t n k i → i < n
+takes_in t n k i lent (inl e) = place_known t n k i lent e
+takes_in t n k i lent (inr e) = place_free t n k i lent e
+
+pub takes_room : (t : List ℕ) (n : ℕ) (k : Key) (i : ℕ) → Lent t n → Takes t n k i → i * 512 + 512 ≤ length t
+takes_room t n k i lent e = room_in t n k i lent (takes_in t n k i lent e)
+
+pub takes_readable : (t : List ℕ) (n : ℕ) (k : Key) (i : ℕ) → Lent t n → Takes t n k i → readable (block_at t i) ≡ true
+takes_readable t n k i lent e = readable_in t n k i lent (takes_in t n k i lent e)
+
+-- a message within the limits
+within : (from : Address) (m : Message) → within_limits from m ≡ true → message_fits m ≡ true
+unfolding within_limits
+within from m lim = (and_true (not (eqb from.0 0)) (message_fits m) lim).1
+
 -- ---- what the code does is that outcome
 
 -- an outcome that is known is received
@@ -76,47 +96,35 @@ pub refused_by_lem : (t : List ℕ) (n : ℕ) (a : List ℕ) (from : Address) (m
 refused_by_lem t n a from m x e = received t n a from m (outcome keep (refused x)) (Answer.Refused x) t a e refl refl refl refl
 
 -- a work on block i, which the outcome names
-placed_by : (t : List ℕ) (n : ℕ) (a : List ℕ) (from : Address) (m : Message) (w : Work) (i : ℕ) (fits : Bool) (r : Answer) (t' a' : List ℕ) → (fits ≡ false → outcome_on t n a from m ≡ outcome keep (refused Refusal.OverLimit)) → (fits ≡ true → outcome_on t n a from m ≡ outcome (cond w.stores (put i w.next) keep) (one from w.answer)) → said (answer_of (one from w.answer)) (written_in a (one from w.answer)) ≡ one from w.answer → Placed w fits from t i r t' → a' ≡ cond fits (written_in a (one from w.answer)) a → Received t n a from m r t' a'
-placed_by t n a from m w i false r t' a' over done back p ea =
-    rw (p.answer, p.table, ea) (refused_by_lem t n a from m Refusal.OverLimit (over refl))
-placed_by t n a from m w i true r t' a' over done back p ea =
-    received t n a from m (outcome (cond w.stores (put i w.next) keep) (one from w.answer)) r t' a' (done refl) p.answer (rw (p.answer, ea) back) (p.table ∙ by w.stores) ea
+placed_by : (t : List ℕ) (n : ℕ) (a : List ℕ) (from : Address) (m : Message) (w : Work) (i : ℕ) (r : Answer) (t' a' : List ℕ) → outcome_on t n a from m ≡ outcome (cond w.stores (put i w.next) keep) (one from w.answer) → said (answer_of (one from w.answer)) (written_in a (one from w.answer)) ≡ one from w.answer → Placed w from t i r t' → a' ≡ written_in a (one from w.answer) → Received t n a from m r t' a'
+placed_by t n a from m w i r t' a' done back p ea =
+    received t n a from m (outcome (cond w.stores (put i w.next) keep) (one from w.answer)) r t' a' done p.answer (rw (p.answer, ea) back) (p.table ∙ by w.stores) ea
   where
     by : (s : Bool) → cond s (with_block t i (image w.next)) t ≡ stored t (cond s (put i w.next) keep)
     by true = refl
     by false = refl
 
-module _ (t : List ℕ) (n : ℕ) (a : List ℕ) (from : Address) (m : Message) (j : Job) (jm : job_of m ≡ Some j) (fits : Bool) (ready : Ready t n from m fits) (la : length a ≡ 256) where
+module _ (t : List ℕ) (n : ℕ) (a : List ℕ) (from : Address) (m : Message) (j : Job) (jm : job_of m ≡ Some j) (lent : Lent t n) (la : length a ≡ 256) where
   pub twice_received : where_is j.key (slots t n) ≡ Found.Twice → Received t n a from m (Answer.Refused Refusal.Damaged) t a
-  twice_received e = refused_by_lem t n a from m Refusal.Damaged (twice_outcome t n a from m j jm ready.lent la e)
+  twice_received e = refused_by_lem t n a from m Refusal.Damaged (twice_outcome t n a from m j jm lent la e)
 
-  module _ (i : ℕ) (r : Answer) (t' a' : List ℕ) where
+  pub over_received : (f : Found) → where_is j.key (slots t n) ≡ f → is_twice f ≡ false → within_limits from m ≡ false → Received t n a from m (Answer.Refused Refusal.OverLimit) t a
+  over_received f e one_block lim = refused_by_lem t n a from m Refusal.OverLimit (over_outcome t n a from m j jm lent la f e one_block lim)
+
+  module _ (lim : within_limits from m ≡ true) where
     -- the work on the block as it is read
-    abbrev pub here : Work
-    here = j.work (register_with j.key (block_at t i))
+    pub block_received : (i : ℕ) (w : Work) (r : Answer) (t' a' : List ℕ) → Takes t n j.key i → w ≡ j.work (register_with j.key (block_at t i)) → said (answer_of (one from w.answer)) (written_in a (one from w.answer)) ≡ one from w.answer → Placed w from t i r t' → a' ≡ written_in a (one from w.answer) → Received t n a from m r t' a'
+    block_received i w r t' a' (inl e) ew back p ea =
+        placed_by t n a from m w i r t' a' (known_outcome t n a from m j jm lent la i w e (ap j.work (register_known t n j.key i lent e) ∙ sym ew) lim) back p ea
+    block_received i w r t' a' (inr e) ew back p ea =
+        placed_by t n a from m w i r t' a' (new_outcome t n a from m j jm lent la i w e (ap j.work (sym (register_new t n j.key i lent e)) ∙ sym ew) lim) back p ea
 
-    pub known_received : where_is j.key (slots t n) ≡ Found.At i → said (answer_of (one from here.answer)) (written_in a (one from here.answer)) ≡ one from here.answer → Placed here fits from t i r t' → a' ≡ cond fits (written_in a (one from here.answer)) a → Received t n a from m r t' a'
-    known_received e = placed_by t n a from m here i fits r t' a'
-        (λ f. over_outcome t n a from m j jm ready.lent la (Found.At i) e refl (sym ready.limits ∙ f))
-        (λ f. known_outcome t n a from m j jm ready.lent la i here e (ap j.work (register_known t n j.key i ready.lent e)) (sym ready.limits ∙ f))
-
-    pub new_received : where_is j.key (slots t n) ≡ Found.Free i → said (answer_of (one from here.answer)) (written_in a (one from here.answer)) ≡ one from here.answer → Placed here fits from t i r t' → a' ≡ cond fits (written_in a (one from here.answer)) a → Received t n a from m r t' a'
-    new_received e = placed_by t n a from m here i fits r t' a'
-        (λ f. over_outcome t n a from m j jm ready.lent la (Found.Free i) e refl (sym ready.limits ∙ f))
-        (λ f. new_outcome t n a from m j jm ready.lent la i here e (ap j.work (sym (register_new t n j.key i ready.lent e))) (sym ready.limits ∙ f))
-
-  pub full_received : (w : Work) (r : Answer) → where_is j.key (slots t n) ≡ Found.Full → j.work (fresh j.key) ≡ w → said (answer_of (one from w.answer)) a ≡ one from w.answer → a ≡ written_in a (one from w.answer) → r ≡ full_answer w fits from → Received t n a from m r t a
-  full_received w r e ew back ea er = go fits refl er w.stores refl
-    where
-      go : (f : Bool) → fits ≡ f → r ≡ full_answer w f from → (s : Bool) → w.stores ≡ s → Received t n a from m r t a
-      go false ef er' s es = rw er' (refused_by_lem t n a from m Refusal.OverLimit (over_outcome t n a from m j jm ready.lent la Found.Full e refl (sym ready.limits ∙ ef)))
-      go true ef er' s es =
-          let o = full_outcome t n a from m j jm ready.lent la w e ew (sym ready.limits ∙ ef) in
-          by s es (rw es at er') (rw es at o)
-        where
-          by : (s : Bool) → w.stores ≡ s → r ≡ cond s (Answer.Refused Refusal.NoRoom) (answer_of (one from w.answer)) → outcome_on t n a from m ≡ cond s (outcome keep (refused Refusal.NoRoom)) (outcome keep (one from w.answer)) → Received t n a from m r t a
-          by true es er'' o = rw er'' (refused_by_lem t n a from m Refusal.NoRoom o)
-          by false es er'' o = received t n a from m (outcome keep (one from w.answer)) r t a o er'' (rw er'' back) refl ea
+    pub full_received : (w : Work) (r : Answer) → where_is j.key (slots t n) ≡ Found.Full → j.work (fresh j.key) ≡ w → said (answer_of (one from w.answer)) a ≡ one from w.answer → a ≡ written_in a (one from w.answer) → r ≡ full_answer w from → Received t n a from m r t a
+    full_received w r e ew back ea er = go w.stores refl er (full_outcome t n a from m j jm lent la w e ew lim)
+      where
+        go : (s : Bool) → w.stores ≡ s → r ≡ cond w.stores (Answer.Refused Refusal.NoRoom) (answer_of (one from w.answer)) → outcome_on t n a from m ≡ cond w.stores (outcome keep (refused Refusal.NoRoom)) (outcome keep (one from w.answer)) → Received t n a from m r t a
+        go true es er' o = rw (rw es at er') (refused_by_lem t n a from m Refusal.NoRoom (rw es at o))
+        go false es er' o = received t n a from m (outcome keep (one from w.answer)) r t a (rw es at o) (rw es at er') (rw (rw es at er') back) refl ea
 
 -- ---- the two messages
 
@@ -127,93 +135,49 @@ propose_back b r from a h = go (above b r.seen)
     v : List ℕ
     v = take (length (bytes_of r.value)) (sets a 0 (bytes_of r.value))
 
-    go : (p : Bool) → one from (Message.ProposeRes b r.accepted (given (marked r.value) v) (result_of (result_rpc (cond p Result.Ok (Result.Err (Failure.ProposalRejected r.seen)))) v)) ≡ one from (Message.ProposeRes b r.accepted r.value (cond p Result.Ok (Result.Err (Failure.ProposalRejected r.seen))))
-    go true = ap (λ (o : Option Value). one from (Message.ProposeRes b r.accepted o Result.Ok)) (value_back r.value a h)
-    go false = ap (λ (o : Option Value). one from (Message.ProposeRes b r.accepted o (Result.Err (Failure.ProposalRejected r.seen)))) (value_back r.value a h)
+    go : (p : Bool) → one from (Message.ProposeRes b r.accepted (given (marked r.value) v) (result_of (result_rpc (cond p Verdict.Granted (Verdict.Denied (Failure.ProposalRejected r.seen)))) v)) ≡ one from (Message.ProposeRes b r.accepted r.value (cond p Verdict.Granted (Verdict.Denied (Failure.ProposalRejected r.seen))))
+    go true = ap (λ (o : Option Value). one from (Message.ProposeRes b r.accepted o Verdict.Granted)) (value_back r.value a h)
+    go false = ap (λ (o : Option Value). one from (Message.ProposeRes b r.accepted o (Verdict.Denied (Failure.ProposalRejected r.seen)))) (value_back r.value a h)
 
 accept_back : (b : Ballot) (o : Option Value) (r : Register) (from : Address) (a : List ℕ) → said (answer_of (one from (accepted b o r).answer)) (written_in a (one from (accepted b o r).answer)) ≡ one from (accepted b o r).answer
 accept_back b o r from a = go (not_below b r.seen)
   where
-    go : (p : Bool) → one from (Message.AcceptRes b (result_of (result_rpc (cond p Result.Ok (Result.Err (Failure.AcceptRejected r.seen)))) [])) ≡ one from (Message.AcceptRes b (cond p Result.Ok (Result.Err (Failure.AcceptRejected r.seen))))
+    go : (p : Bool) → one from (Message.AcceptRes b (result_of (result_rpc (cond p Verdict.Granted (Verdict.Denied (Failure.AcceptRejected r.seen)))) [])) ≡ one from (Message.AcceptRes b (cond p Verdict.Granted (Verdict.Denied (Failure.AcceptRejected r.seen))))
     go true = refl
     go false = refl
 
--- ---- as the code has it: what `locate` found
+-- ---- as the code has it
 
-module _ (t : List ℕ) (n : ℕ) (a key : List ℕ) (from : Address) (ballot : Ballot) (fits : Bool) (ready : Ready t n from (Message.ProposeReq ballot key) fits) (la : length a ≡ 256) (found : Found) (ef : found ≡ where_is key (slots t n)) where
-  pub propose_twice : found ≡ Found.Twice → Received t n a from (Message.ProposeReq ballot key) (Answer.Refused Refusal.Damaged) t a
-  propose_twice e = twice_received t n a from (Message.ProposeReq ballot key) (proposal ballot key) refl fits ready la (sym ef ∙ e)
-
-  pub propose_full : (r : Answer) → found ≡ Found.Full → r ≡ full_answer (proposed ballot (fresh [])) fits from → Received t n a from (Message.ProposeReq ballot key) r t a
-  propose_full r e er =
-      full_received t n a from (Message.ProposeReq ballot key) (proposal ballot key) refl fits ready la (proposed ballot (fresh key)) r (sym ef ∙ e) refl (propose_back ballot (fresh key) from a (omega arith)) refl er
-
-  module _ (i : ℕ) (r : Answer) (t' a' : List ℕ) (p : Placed (proposed ballot (register_with key (block_at t i))) fits from t i r t') (ea : a' ≡ cond fits (sets a 0 (bytes_of (register_of (block_at t i)).value)) a) where
-    back : i < n → said (answer_of (one from (proposed ballot (register_with key (block_at t i))).answer)) (written_in a (one from (proposed ballot (register_with key (block_at t i))).answer)) ≡ one from (proposed ballot (register_with key (block_at t i))).answer
-    back h =
+module _ (t : List ℕ) (n : ℕ) (a key : List ℕ) (from : Address) (lent : Lent t n) (la : length a ≡ 256) where
+  module _ (ballot : Ballot) (lim : within_limits from (Message.ProposeReq ballot key) ≡ true) where
+    pub propose_block : (i : ℕ) (r : Answer) (t' a' : List ℕ) → Takes t n key i → Placed (proposed ballot (register_with key (block_at t i))) from t i r t' → a' ≡ sets a 0 (bytes_of (register_of (block_at t i)).value) → Received t n a from (Message.ProposeReq ballot key) r t' a'
+    propose_block i r t' a' at_i p ea =
         let b = block_at t i in
-        let room = length_block t i (room_in t n key i ready.lent h) in
-        propose_back ballot (register_with key b) from a (omega (arith, value_fits_lem b room (readable_in t n key i ready.lent h)))
+        let more = takes_in t n key i lent at_i in
+        let fits = value_fits_lem b (length_block t i (room_in t n key i lent more)) (readable_in t n key i lent more) in
+        block_received t n a from (Message.ProposeReq ballot key) (proposal ballot key) refl lent la lim i (proposed ballot (register_with key b)) r t' a' at_i refl (propose_back ballot (register_with key b) from a (omega arith)) p ea
 
-    pub propose_known : found ≡ Found.At i → Received t n a from (Message.ProposeReq ballot key) r t' a'
-    propose_known e =
-        known_received t n a from (Message.ProposeReq ballot key) (proposal ballot key) refl fits ready la i r t' a' (sym ef ∙ e) (back (place_known t n key i ready.lent (sym ef ∙ e))) p ea
+    pub propose_full : (r : Answer) → where_is key (slots t n) ≡ Found.Full → r ≡ full_answer (proposed ballot (fresh [])) from → Received t n a from (Message.ProposeReq ballot key) r t a
+    propose_full r e er =
+        full_received t n a from (Message.ProposeReq ballot key) (proposal ballot key) refl lent la lim (proposed ballot (fresh key)) r e refl (propose_back ballot (fresh key) from a (omega arith)) refl er
 
-    pub propose_new : found ≡ Found.Free i → Received t n a from (Message.ProposeReq ballot key) r t' a'
-    propose_new e =
-        new_received t n a from (Message.ProposeReq ballot key) (proposal ballot key) refl fits ready la i r t' a' (sym ef ∙ e) (back (place_free t n key i ready.lent (sym ef ∙ e))) p ea
+    pub propose_key : length key ≤ key_most
+    propose_key = short_key key (within from (Message.ProposeReq ballot key) lim)
 
--- an area that a choice leaves either way
-kept : (a : List ℕ) (f : Bool) → a ≡ cond f a a
-kept a true = refl
-kept a false = refl
+  module _ (ballot : Ballot) (o : Option Value) (lim : within_limits from (Message.AcceptReq ballot key o) ≡ true) where
+    pub accept_block : (i : ℕ) (r : Answer) (t' : List ℕ) → Takes t n key i → Placed (accepted ballot o (register_with key (block_at t i))) from t i r t' → Received t n a from (Message.AcceptReq ballot key o) r t' a
+    accept_block i r t' at_i p =
+        block_received t n a from (Message.AcceptReq ballot key o) (acceptance ballot key o) refl lent la lim i (accepted ballot o (register_with key (block_at t i))) r t' a at_i refl (accept_back ballot o (register_with key (block_at t i)) from a) p refl
 
-module _ (t : List ℕ) (n : ℕ) (a key : List ℕ) (o : Option Value) (from : Address) (ballot : Ballot) (fits : Bool) (ready : Ready t n from (Message.AcceptReq ballot key o) fits) (la : length a ≡ 256) (found : Found) (ef : found ≡ where_is key (slots t n)) where
-  pub accept_twice : found ≡ Found.Twice → Received t n a from (Message.AcceptReq ballot key o) (Answer.Refused Refusal.Damaged) t a
-  accept_twice e = twice_received t n a from (Message.AcceptReq ballot key o) (acceptance ballot key o) refl fits ready la (sym ef ∙ e)
+    pub accept_full : where_is key (slots t n) ≡ Found.Full → Received t n a from (Message.AcceptReq ballot key o) (Answer.Refused Refusal.NoRoom) t a
+    accept_full e =
+        full_received t n a from (Message.AcceptReq ballot key o) (acceptance ballot key o) refl lent la lim (accepted ballot o (fresh key)) (Answer.Refused Refusal.NoRoom) e refl (accept_back ballot o (fresh key) from a) refl (rw (le-ltb ballot.0 0 (omega arith)))
 
-  pub accept_full : (r : Answer) → found ≡ Found.Full → r ≡ cond fits (Answer.Refused Refusal.NoRoom) (Answer.Refused Refusal.OverLimit) → Received t n a from (Message.AcceptReq ballot key o) r t a
-  accept_full r e er =
-      full_received t n a from (Message.AcceptReq ballot key o) (acceptance ballot key o) refl fits ready la (accepted ballot o (fresh key)) r (sym ef ∙ e) refl (accept_back ballot o (fresh key) from a) refl (er ∙ rw (le-ltb ballot.0 0 (omega arith)))
+    pub accept_key : length key ≤ key_most
+    accept_key = register_key key o (within from (Message.AcceptReq ballot key o) lim)
 
-  module _ (i : ℕ) (r : Answer) (t' : List ℕ) (p : Placed (accepted ballot o (register_with key (block_at t i))) fits from t i r t') where
-    pub accept_known : found ≡ Found.At i → Received t n a from (Message.AcceptReq ballot key o) r t' a
-    accept_known e =
-        known_received t n a from (Message.AcceptReq ballot key o) (acceptance ballot key o) refl fits ready la i r t' a (sym ef ∙ e) (accept_back ballot o (register_with key (block_at t i)) from a) p (kept a fits)
-
-    pub accept_new : found ≡ Found.Free i → Received t n a from (Message.AcceptReq ballot key o) r t' a
-    accept_new e =
-        new_received t n a from (Message.AcceptReq ballot key o) (acceptance ballot key o) refl fits ready la i r t' a (sym ef ∙ e) (accept_back ballot o (register_with key (block_at t i)) from a) p (kept a fits)
-
--- ---- what the functions below ask
-
-module _ (t : List ℕ) (n : ℕ) (from : Address) (m : Message) (fits : Bool) (key : Key) (i : ℕ) (found : Found) (ready : Ready t n from m fits) (ef : found ≡ where_is key (slots t n)) where
-  pub room_known : found ≡ Found.At i → i * 512 + 512 ≤ length t
-  room_known e = room_in t n key i ready.lent (place_known t n key i ready.lent (sym ef ∙ e))
-
-  pub room_new : found ≡ Found.Free i → i * 512 + 512 ≤ length t
-  room_new e = room_in t n key i ready.lent (place_free t n key i ready.lent (sym ef ∙ e))
-
-  pub readable_known : found ≡ Found.At i → readable (block_at t i) ≡ true
-  readable_known e = readable_in t n key i ready.lent (place_known t n key i ready.lent (sym ef ∙ e))
-
-  pub readable_new : found ≡ Found.Free i → readable (block_at t i) ≡ true
-  readable_new e = readable_in t n key i ready.lent (place_free t n key i ready.lent (sym ef ∙ e))
-
--- a message within the limits
-within : (t : List ℕ) (n : ℕ) (from : Address) (m : Message) (fits : Bool) → Ready t n from m fits → fits ≡ true → message_fits m ≡ true
-unfolding within_limits
-within t n from m fits ready f = (and_true (not (eqb from.0 0)) (message_fits m) (sym ready.limits ∙ f)).1
-
-pub propose_key : (t : List ℕ) (n : ℕ) (from : Address) (b : Ballot) (k : Key) (fits : Bool) → Ready t n from (Message.ProposeReq b k) fits → fits ≡ true → length k ≤ key_most
-propose_key t n from b k fits ready f = short_key k (within t n from (Message.ProposeReq b k) fits ready f)
-
-module _ (t : List ℕ) (n : ℕ) (from : Address) (b : Ballot) (k : Key) (o : Option Value) (fits : Bool) (ready : Ready t n from (Message.AcceptReq b k o) fits) (f : fits ≡ true) where
-  pub accept_key : length k ≤ key_most
-  accept_key = register_key k o (within t n from (Message.AcceptReq b k o) fits ready f)
-
-  pub accept_value : length (bytes_of o) ≤ value_most
-  accept_value = register_value k o (within t n from (Message.AcceptReq b k o) fits ready f)
+    pub accept_value : length (bytes_of o) ≤ value_most
+    accept_value = register_value key o (within from (Message.AcceptReq ballot key o) lim)
 
 -- ---- the refusals that need no search
 

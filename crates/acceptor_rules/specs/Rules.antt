@@ -6,7 +6,7 @@ use Rattle.messages.specs.declared.Address.{Address}
 use Rattle.messages.specs.declared.Ballot.{Ballot}
 use Rattle.messages.specs.declared.answer.Refusal.{Refusal}
 use Rattle.messages.specs.Ballots.{above, not_below}
-use Rattle.messages.specs.Message.{Key, Value, Failure, Result, Message}
+use Rattle.messages.specs.Message.{Key, Value, Failure, Verdict, Message}
 use Rattle.messages.specs.Limits.{within_limits}
 use Rattle.messages.specs.Refusals.{Test, test, first_due}
 use Rattle.messages.specs.Answers.{Told, one, refused}
@@ -27,7 +27,7 @@ abbrev pub proposed : Ballot → Register → Work
 proposed b r = record {
   stores = above b r.seen;
   next = register r.key b r.accepted r.value;
-  answer = Message.ProposeRes b r.accepted r.value (cond (above b r.seen) Result.Ok (Result.Err (Failure.ProposalRejected r.seen)));
+  answer = Message.ProposeRes b r.accepted r.value (cond (above b r.seen) Verdict.Granted (Verdict.Denied (Failure.ProposalRejected r.seen)));
 }
 
 -- "`AcceptReq(b, key, v)`: if b >= highest seen, store b as highest seen and as accepted ballot, and v as value, and answer Ok; else `AcceptRejected` with highest seen, nothing stored."
@@ -35,7 +35,7 @@ abbrev pub accepted : Ballot → Option Value → Register → Work
 accepted b v r = record {
   stores = not_below b r.seen;
   next = register r.key b b v;
-  answer = Message.AcceptRes b (cond (not_below b r.seen) Result.Ok (Result.Err (Failure.AcceptRejected r.seen)));
+  answer = Message.AcceptRes b (cond (not_below b r.seen) Verdict.Granted (Verdict.Denied (Failure.AcceptRejected r.seen)));
 }
 
 -- ---- a message

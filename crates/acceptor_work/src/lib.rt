@@ -1,16 +1,18 @@
-// The acceptor's work on one block of a lent table, and its answers where no block holds the key and none is free.
+// The acceptor's work on one block of a lent table, and its answer where no block holds the key and none is free. A block comes as a slice
+// and is made an array here: what `as_mut_array` leaves is known to a proof only where the whole slice is a parameter.
 #![tactic(auto)]
 
-ghost use Rattle.std.specs.Prelude.{◌≡◌, true, cond, [], ◌≤◌, length};
+ghost use Rattle.std.specs.Prelude.{◌≡◌, true, [], ◌≤◌, length};
 ghost use Rattle.std.proofs.lemmas.List.Edits.{sets};
 ghost use Rattle.messages.specs.Message.{given};
 ghost use Rattle.messages.specs.Limits.{key_most, value_most};
 ghost use Rattle.messages.specs.Answers.{bytes_of};
 ghost use Rattle.storage_block.specs.Block.{block_bytes, readable, register_of, register_with, fresh};
 ghost use Rattle.acceptor_rules.specs.Rules.{proposed, accepted};
-ghost use Rattle.acceptor_work.specs.Contract.{answer_bytes, Worked, full_answer};
+ghost use Rattle.acceptor_work.specs.Contract.{Worked, full_answer};
 
-use messages::{Address, Answer, Ballot, Error, OptionValue, Refusal, Res, Rpc};
+use messages::{Address, Answer, Ballot, Error, Lent, Refusal, Rpc, VALUE_MOST};
+use storage_write::Register;
 
 // A proposal on the block that holds its key, or on a free one.
 pub fn propose_in(
@@ -18,35 +20,38 @@ pub fn propose_in(
     from: Address,
     ballot: Ballot,
     key: &[u8],
-    area: &mut [u8],
+    area: &mut [u8; VALUE_MOST],
 ) -> Answer
-    requires { (length b.old ≡ block_bytes) × (readable b.old ≡ true) × (length key.now ≤ key_most) × (length area.old ≡ answer_bytes) }
+    requires { (length b.old ≡ block_bytes) × (readable b.old ≡ true) × (length key.now ≤ key_most) }
     ensures { (Worked (proposed ballot (register_with key.now b.old)) from b.old result b.new) × (area.new ≡ sets area.old 0 (bytes_of (register_of b.old).value)) }
 {
+    let Some(b) = b.as_mut_array() else {
+        unreachable!()
+    };
     let seen = storage_block::highest_seen(b);
     let last = storage_block::accepted_ballot(b);
     let mark = storage_block::value_mark(b);
     let len = storage_block::copy_value(b, area);
-    if !ballot.above(seen) {
-        return Answer::Message {
-            to: from,
-            rpc: Rpc::ProposeRes {
-                req_ballot: ballot,
-                last_accepted_ballot: last,
-                last_accepted_value: mark,
-                res: Res::Err(Error::ProposalRejected { last: seen }),
-            },
-            value_len: len,
+    let res = if ballot.above(seen) {
+        let promised = Register {
+            key,
+            seen: ballot,
+            accepted: last,
+            value: mark,
+            bytes: &area[..len],
         };
-    }
-    storage_write::write(b, key, ballot, last, mark, &area[0..len]);
+        storage_write::write(b, promised);
+        Ok(())
+    } else {
+        Err(Error::ProposalRejected { last: seen })
+    };
     Answer::Message {
         to: from,
         rpc: Rpc::ProposeRes {
             req_ballot: ballot,
             last_accepted_ballot: last,
             last_accepted_value: mark,
-            res: Res::Ok,
+            res,
         },
         value_len: len,
     }
@@ -58,35 +63,40 @@ pub fn accept_in(
     from: Address,
     ballot: Ballot,
     key: &[u8],
-    value: OptionValue,
+    value: Option<Lent>,
     bytes: &[u8],
 ) -> Answer
     requires { (length b.old ≡ block_bytes) × (length key.now ≤ key_most) × (length (bytes_of (given value bytes.now)) ≤ value_most) }
     ensures { Worked (accepted ballot (given value bytes.now) (register_with key.now b.old)) from b.old result b.new }
 {
+    let Some(b) = b.as_mut_array() else {
+        unreachable!()
+    };
     let seen = storage_block::highest_seen(b);
-    if seen.above(ballot) {
-        return Answer::Message {
-            to: from,
-            rpc: Rpc::AcceptRes(ballot, Res::Err(Error::AcceptRejected { last: seen })),
-            value_len: 0,
+    let res = if seen.above(ballot) {
+        Err(Error::AcceptRejected { last: seen })
+    } else {
+        let taken = Register {
+            key,
+            seen: ballot,
+            accepted: ballot,
+            value,
+            bytes,
         };
-    }
-    storage_write::write(b, key, ballot, ballot, value, bytes);
+        storage_write::write(b, taken);
+        Ok(())
+    };
     Answer::Message {
         to: from,
-        rpc: Rpc::AcceptRes(ballot, Res::Ok),
+        rpc: Rpc::AcceptRes(ballot, res),
         value_len: 0,
     }
 }
 
 // A proposal for an unknown key on a full table: above ballot 0 it needs a block.
-pub fn propose_full(from: Address, ballot: Ballot, fits: bool) -> Answer
-    ensures { result ≡ full_answer (proposed ballot (fresh [])) fits from }
+pub fn propose_full(from: Address, ballot: Ballot) -> Answer
+    ensures { result ≡ full_answer (proposed ballot (fresh [])) from }
 {
-    if !fits {
-        return Answer::Refused(Refusal::OverLimit);
-    }
     if ballot.above(Ballot(0)) {
         return Answer::Refused(Refusal::NoRoom);
     }
@@ -95,19 +105,9 @@ pub fn propose_full(from: Address, ballot: Ballot, fits: bool) -> Answer
         rpc: Rpc::ProposeRes {
             req_ballot: ballot,
             last_accepted_ballot: Ballot(0),
-            last_accepted_value: OptionValue::None,
-            res: Res::Err(Error::ProposalRejected { last: Ballot(0) }),
+            last_accepted_value: None,
+            res: Err(Error::ProposalRejected { last: Ballot(0) }),
         },
         value_len: 0,
     }
-}
-
-// An acceptance for an unknown key on a full table always needs a block.
-pub fn accept_full(fits: bool) -> Answer
-    ensures { result ≡ cond fits (Answer.Refused Refusal.NoRoom) (Answer.Refused Refusal.OverLimit) }
-{
-    if !fits {
-        return Answer::Refused(Refusal::OverLimit);
-    }
-    Answer::Refused(Refusal::NoRoom)
 }

@@ -13,7 +13,7 @@ use Rattle.leaf_fields.specs.Fields.{same}
 use Rattle.leaf_fields.specs.Laws.{same-true, same_refl}
 use Rattle.messages.specs.declared.Ballot.{Ballot}
 use Rattle.messages.specs.Ballots.{above, not_below}
-use Rattle.messages.specs.Message.{Key, Value, Result, Message}
+use Rattle.messages.specs.Message.{Key, Value, Verdict, Message}
 use Rattle.storage_block.specs.Block.{Slot, used, Register, register}
 use Rattle.acceptor_rules.specs.Rules.{Outcome, receive}
 use Rattle.acceptor.specs.Stores.{Takes}
@@ -118,7 +118,7 @@ module _ (fixed : List ℕ) where
       promised_register = register (register_for k l).key b (register_for k l).accepted (register_for k l).value
 
       abbrev promise_sent : Frame
-      promise_sent = record { from = a; to = from; message = Message.ProposeRes b (register_for k l).accepted (register_for k l).value Result.Ok }
+      promise_sent = record { from = a; to = from; message = Message.ProposeRes b (register_for k l).accepted (register_for k l).value Verdict.Granted }
 
       abbrev promise_plant : Plant
       promise_plant = record { party = after (set l i (used promised_register)); frames = promise_sent ∷ s.frames; arrivals = s.arrivals; acceptances = s.acceptances }
@@ -153,7 +153,7 @@ module _ (fixed : List ℕ) where
       accepted_register = register (register_for k l).key b b v
 
       abbrev acceptance_sent : Frame
-      acceptance_sent = record { from = a; to = from; message = Message.AcceptRes b Result.Ok }
+      acceptance_sent = record { from = a; to = from; message = Message.AcceptRes b Verdict.Granted }
 
       abbrev acceptance_plant : Plant
       acceptance_plant = record { party = after (set l i (used accepted_register)); frames = acceptance_sent ∷ s.frames; arrivals = s.arrivals; acceptances = C.acceptance plant_order a k b v ∷ s.acceptances }

@@ -8,7 +8,7 @@ use Rattle.std.specs.Prelude.{Option, None, Some}
 use Rattle.std.proofs.Math.ListN.{length}
 use Rattle.messages.specs.declared.Ballot.{Ballot}
 use Rattle.messages.specs.Ballots.{ballot0, above}
-use Rattle.messages.specs.Message.{Key, Value, Request, Result, Reply, Message}
+use Rattle.messages.specs.Message.{Key, Value, Request, Verdict, Reply, Message}
 use Rattle.storage_block.specs.Block.{Slot}
 use Rattle.acceptor.specs.Dependence.{register_for}
 use Rattle.proposer_rules.specs.State.{Pending, Proposer, key_of}
@@ -107,11 +107,11 @@ module _ (fixed : List ℕ) (s : Plant) (h : Past) (tie : Tied fixed s h) where
     proposer_means P e (Message.SetAcceptAcceptors k) x = absurd x
     proposer_means P e (Message.SetProposeAcceptors k) x = absurd x
     proposer_means P e (Message.ProposeReq b k) x = tt
-    proposer_means P e (Message.ProposeRes b a v Result.Ok) x = x
-    proposer_means P e (Message.ProposeRes b a v (Result.Err y)) x = tt
+    proposer_means P e (Message.ProposeRes b a v Verdict.Granted) x = x
+    proposer_means P e (Message.ProposeRes b a v (Verdict.Denied y)) x = tt
     proposer_means P e (Message.AcceptReq b k v) x = tt
-    proposer_means P e (Message.AcceptRes b Result.Ok) x = x
-    proposer_means P e (Message.AcceptRes b (Result.Err y)) x = tt
+    proposer_means P e (Message.AcceptRes b Verdict.Granted) x = x
+    proposer_means P e (Message.AcceptRes b (Verdict.Denied y)) x = tt
 
     deliver_tied : In f s.frames → TiedPlant fixed (hear s f.from f.to t f.message)
     deliver_tied m = hear_tied f.from f.to t f.message (λ l e. acceptor_means l e f.message (tie.sent f m)) (λ P e. proposer_means P e f.message (tie.sent f m))

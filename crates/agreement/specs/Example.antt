@@ -7,7 +7,7 @@ use Rattle.std.specs.Prelude.{Option, None, Some}
 use Rattle.leaf_fields.specs.Fields.{same}
 use Rattle.messages.specs.declared.Ballot.{Ballot}
 use Rattle.messages.specs.Ballots.{ballot0}
-use Rattle.messages.specs.Message.{Key, Value, Request, Failure, Result, Reply, Message}
+use Rattle.messages.specs.Message.{Key, Value, Request, Failure, Verdict, Reply, Message}
 use Rattle.messages.specs.Limits.{within_limits}
 use Rattle.storage_block.specs.Block.{Slot, free}
 use Rattle.storage_search.specs.Table.{none_bad, count, first_from, where_is}
@@ -199,14 +199,14 @@ proposal p a b = record { from = p; to = a; message = Message.ProposeReq b valve
 
 -- acceptor a has promised ballot 1 to the other
 abbrev no_from : ℕ → Frame
-no_from a = record { from = a; to = 2; message = Message.ProposeRes ballot1 ballot0 None (Result.Err (Failure.ProposalRejected ballot1)) }
+no_from a = record { from = a; to = 2; message = Message.ProposeRes ballot1 ballot0 None (Verdict.Denied (Failure.ProposalRejected ballot1)) }
 
 -- the accept round at ballot 3
 abbrev accept_to : ℕ → Frame
 accept_to a = record { from = 2; to = a; message = Message.AcceptReq ballot3 valve (Some elsewhere) }
 
 abbrev yes_from : ℕ → Frame
-yes_from a = record { from = a; to = 2; message = Message.AcceptRes ballot3 Result.Ok }
+yes_from a = record { from = a; to = 2; message = Message.AcceptRes ballot3 Verdict.Granted }
 
 abbrev answer : ℕ → ℕ → ℕ → Reply → Frame
 answer p c id r = record { from = p; to = c; message = Message.ClientResponse id r }

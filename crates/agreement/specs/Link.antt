@@ -5,7 +5,7 @@ use Rattle.std.proofs.Common.{sym, subst, inl, inr, eqb-true}
 use Rattle.std.specs.Prelude.{Option, Some}
 use Rattle.std.proofs.lemmas.Bool.{eqb-false}
 use Rattle.messages.specs.declared.Ballot.{Ballot}
-use Rattle.messages.specs.Message.{Key, Value, Failure, Result, Reply, Message}
+use Rattle.messages.specs.Message.{Key, Value, Failure, Verdict, Reply, Message}
 use Rattle.storage_block.specs.Block.{Register}
 use Rattle.acceptor.specs.Dependence.{register_for}
 use Rattle.proposer_rules.specs.State.{Phase, Propose, Accept, Pending, Proposer, key_of}
@@ -62,11 +62,11 @@ module _ (fixed : List ℕ) where
   Means s h f (Message.SetAcceptAcceptors l) = ⊥
   Means s h f (Message.SetProposeAcceptors l) = ⊥
   Means s h f (Message.ProposeReq b k) = UsedFor h.uses f.from b k
-  Means s h f (Message.ProposeRes b a v Result.Ok) = SomeOf h.grants (λ g. (g.who ≡ f.from) × (g.to ≡ f.to) × (g.ballot ≡ b) × (g.had ≡ a) × (g.value ≡ v))
-  Means s h f (Message.ProposeRes b a v (Result.Err e)) = Unit {0}
+  Means s h f (Message.ProposeRes b a v Verdict.Granted) = SomeOf h.grants (λ g. (g.who ≡ f.from) × (g.to ≡ f.to) × (g.ballot ≡ b) × (g.had ≡ a) × (g.value ≡ v))
+  Means s h f (Message.ProposeRes b a v (Verdict.Denied e)) = Unit {0}
   Means s h f (Message.AcceptReq b k v) = SomeOf h.choices (λ c. (c.by ≡ f.from) × (c.ballot ≡ b) × (valve plant_order c ≡ k) × (chosen plant_order c ≡ v))
-  Means s h f (Message.AcceptRes b Result.Ok) = SomeOf h.choices (λ c. (c.by ≡ f.to) × (c.ballot ≡ b) × AcceptedBy plant_order s.acceptances f.from (valve plant_order c) b (chosen plant_order c))
-  Means s h f (Message.AcceptRes b (Result.Err e)) = Unit {0}
+  Means s h f (Message.AcceptRes b Verdict.Granted) = SomeOf h.choices (λ c. (c.by ≡ f.to) × (c.ballot ≡ b) × AcceptedBy plant_order s.acceptances f.from (valve plant_order c) b (chosen plant_order c))
+  Means s h f (Message.AcceptRes b (Verdict.Denied e)) = Unit {0}
 
   -- a pending request in its first phase
   pub record First (s : Plant) (h : Past) (p : ℕ) (q : Pending) : Type 0 where
@@ -164,11 +164,11 @@ module _ (fixed : List ℕ) where
     means_grows f (Message.SetAcceptAcceptors l) x = x
     means_grows f (Message.SetProposeAcceptors l) x = x
     means_grows f (Message.ProposeReq b k) x = some_in up.uses x
-    means_grows f (Message.ProposeRes b a v Result.Ok) x = some_in up.grants x
-    means_grows f (Message.ProposeRes b a v (Result.Err e)) x = tt
+    means_grows f (Message.ProposeRes b a v Verdict.Granted) x = some_in up.grants x
+    means_grows f (Message.ProposeRes b a v (Verdict.Denied e)) x = tt
     means_grows f (Message.AcceptReq b k v) x = some_in up.choices x
-    means_grows f (Message.AcceptRes b Result.Ok) x = record { it = x.it; at = up.choices x.it x.at; is = (x.is.0, x.is.1, some_in up.acceptances x.is.2) }
-    means_grows f (Message.AcceptRes b (Result.Err e)) x = tt
+    means_grows f (Message.AcceptRes b Verdict.Granted) x = record { it = x.it; at = up.choices x.it x.at; is = (x.is.0, x.is.1, some_in up.acceptances x.is.2) }
+    means_grows f (Message.AcceptRes b (Verdict.Denied e)) x = tt
 
     stage_grows : (p : ℕ) (q : Pending) → ((c : Choice plant_order) → In c h'.choices → c.by ≡ p → c.ballot ≡ q.ballot → In c h.choices) → (f : Phase) → Stage s h p q f → Stage s' h' p q f
     stage_grows p q old Propose x = record {

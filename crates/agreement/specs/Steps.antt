@@ -12,7 +12,7 @@ use Rattle.std.proofs.Math.Nat.{le-max_left}
 use Rattle.messages.specs.declared.Ballot.{Ballot}
 use Rattle.messages.specs.declared.answer.Refusal.{Refusal}
 use Rattle.messages.specs.Ballots.{above}
-use Rattle.messages.specs.Message.{Value, Request, Failure, Result, Reply, Message}
+use Rattle.messages.specs.Message.{Value, Request, Failure, Verdict, Reply, Message}
 use Rattle.messages.specs.Refusals.{test, first_due}
 use Rattle.messages.specs.Answers.{nothing, refused}
 use Rattle.proposer_rules.specs.State.{Propose, Accept, Pending, Proposer, key_of, with_no, with_yes}
@@ -138,11 +138,11 @@ module _ (fixed : List ℕ) (s : Plant) (h : Past) (tie : Tied fixed s h) (from 
   Heard (Message.SetAcceptAcceptors l) = SameSet fixed l
   Heard (Message.SetProposeAcceptors l) = SameSet fixed l
   Heard (Message.ProposeReq b k) = Unit {0}
-  Heard (Message.ProposeRes b a v Result.Ok) = Granted b a v
-  Heard (Message.ProposeRes b a v (Result.Err e)) = Unit {0}
+  Heard (Message.ProposeRes b a v Verdict.Granted) = Granted b a v
+  Heard (Message.ProposeRes b a v (Verdict.Denied e)) = Unit {0}
   Heard (Message.AcceptReq b k v) = Unit {0}
-  Heard (Message.AcceptRes b Result.Ok) = Agreed b
-  Heard (Message.AcceptRes b (Result.Err e)) = Unit {0}
+  Heard (Message.AcceptRes b Verdict.Granted) = Agreed b
+  Heard (Message.AcceptRes b (Verdict.Denied e)) = Unit {0}
 
   step : (m : Message) (o : Outcome) → ProposerDoes P (address from) t m o → Heard m → Done o
   step m o keeps_silent x = silently P ok

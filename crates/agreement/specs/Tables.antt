@@ -13,7 +13,7 @@ use Rattle.messages.specs.declared.Address.{Address}
 use Rattle.messages.specs.declared.answer.Refusal.{Refusal}
 use Rattle.messages.specs.declared.Ballot.{Ballot}
 use Rattle.messages.specs.Ballots.{above, not_below}
-use Rattle.messages.specs.Message.{Key, Value, Failure, Result, Message}
+use Rattle.messages.specs.Message.{Key, Value, Failure, Verdict, Message}
 use Rattle.messages.specs.Limits.{within_limits}
 use Rattle.messages.specs.Refusals.{test, first_due}
 use Rattle.messages.specs.Answers.{one, refused}
@@ -213,11 +213,11 @@ module _ (l : List Slot) (from : Address) (b : Ballot) (k : Key) where
 
   pub data ProposalDoes : Outcome → Type 0 where
     refuses_proposal : (r : Refusal) → ProposalDoes (outcome keep (refused r))
-    rejects_proposal : ProposalDoes (outcome keep (one from (Message.ProposeRes b here.accepted here.value (Result.Err (Failure.ProposalRejected here.seen)))))
-    promises : (i : ℕ) → Takes k l i → above b here.seen ≡ true → ProposalDoes (outcome (put i (register here.key b here.accepted here.value)) (one from (Message.ProposeRes b here.accepted here.value Result.Ok)))
+    rejects_proposal : ProposalDoes (outcome keep (one from (Message.ProposeRes b here.accepted here.value (Verdict.Denied (Failure.ProposalRejected here.seen)))))
+    promises : (i : ℕ) → Takes k l i → above b here.seen ≡ true → ProposalDoes (outcome (put i (register here.key b here.accepted here.value)) (one from (Message.ProposeRes b here.accepted here.value Verdict.Granted)))
 
   abbrev proposal_answer : Bool → Message
-  proposal_answer h = Message.ProposeRes b here.accepted here.value (cond h Result.Ok (Result.Err (Failure.ProposalRejected here.seen)))
+  proposal_answer h = Message.ProposeRes b here.accepted here.value (cond h Verdict.Granted (Verdict.Denied (Failure.ProposalRejected here.seen)))
 
   rejected_by_lem : (h : Bool) → h ≡ false → ProposalDoes (outcome keep (one from (proposal_answer h)))
   rejected_by_lem true e = absurd (false≢true (sym e))
@@ -242,11 +242,11 @@ module _ (l : List Slot) (from : Address) (b : Ballot) (k : Key) where
   module _ (v : Option Value) where
     pub data AcceptDoes : Outcome → Type 0 where
       refuses_accept : (r : Refusal) → AcceptDoes (outcome keep (refused r))
-      rejects_accept : AcceptDoes (outcome keep (one from (Message.AcceptRes b (Result.Err (Failure.AcceptRejected here.seen)))))
-      accepts : (i : ℕ) → Takes k l i → not_below b here.seen ≡ true → AcceptDoes (outcome (put i (register here.key b b v)) (one from (Message.AcceptRes b Result.Ok)))
+      rejects_accept : AcceptDoes (outcome keep (one from (Message.AcceptRes b (Verdict.Denied (Failure.AcceptRejected here.seen)))))
+      accepts : (i : ℕ) → Takes k l i → not_below b here.seen ≡ true → AcceptDoes (outcome (put i (register here.key b b v)) (one from (Message.AcceptRes b Verdict.Granted)))
 
     abbrev accept_answer : Bool → Message
-    accept_answer h = Message.AcceptRes b (cond h Result.Ok (Result.Err (Failure.AcceptRejected here.seen)))
+    accept_answer h = Message.AcceptRes b (cond h Verdict.Granted (Verdict.Denied (Failure.AcceptRejected here.seen)))
 
     turned_down_by : (h : Bool) → h ≡ false → AcceptDoes (outcome keep (one from (accept_answer h)))
     turned_down_by true e = absurd (false≢true (sym e))

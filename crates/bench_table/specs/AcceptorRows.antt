@@ -6,7 +6,7 @@ use Rattle.leaf_fields.specs.Fields.{from_le, to_le, all_zero, same, padded}
 use Rattle.leaf_sums.specs.Sums.{plain_sum, placed_sum}
 use Rattle.messages.specs.declared.Address.{Address}
 use Rattle.messages.specs.declared.Ballot.{Ballot}
-use Rattle.messages.specs.Message.{Key, Value, Failure, Result, Message}
+use Rattle.messages.specs.Message.{Key, Value, Failure, Verdict, Message}
 use Rattle.messages.specs.Limits.{none_zero, list_fits, within_limits}
 use Rattle.messages.specs.Answers.{one}
 use Rattle.storage_block.specs.Block.{register, register_of, head_good, rest_zero, sums_good, good, state_of, slot_of, front, body, sealed, image}
@@ -47,28 +47,28 @@ abbrev pub after : List ℕ → Message → List ℕ
 after t m = stored t (on t m).store
 
 -- the answers
-abbrev pub promise : ℕ → ℕ → Option Value → Result → Message
+abbrev pub promise : ℕ → ℕ → Option Value → Verdict → Message
 promise n accepted v r = Message.ProposeRes (b n) (b accepted) v r
 
-abbrev pub rejected_by : ℕ → Result
-rejected_by last = Result.Err (Failure.ProposalRejected (b last))
+abbrev pub rejected_by : ℕ → Verdict
+rejected_by last = Verdict.Denied (Failure.ProposalRejected (b last))
 
-abbrev pub refused_by : ℕ → Result
-refused_by last = Result.Err (Failure.AcceptRejected (b last))
+abbrev pub refused_by : ℕ → Verdict
+refused_by last = Verdict.Denied (Failure.AcceptRejected (b last))
 
 -- ---- the table
 
 pub record AcceptorRows : Type 0 where
   -- fresh, propose 1: Ok, accepted 0, none
-  pub A1 : on fresh_table (Message.ProposeReq (b 1) valve) ≡ outcome (put 0 (register valve (b 1) (b 0) None)) (one proposer (promise 1 0 None Result.Ok))
+  pub A1 : on fresh_table (Message.ProposeReq (b 1) valve) ≡ outcome (put 0 (register valve (b 1) (b 0) None)) (one proposer (promise 1 0 None Verdict.Granted))
   -- again: rejected, last 1
   pub A2 : on (after fresh_table (Message.ProposeReq (b 1) valve)) (Message.ProposeReq (b 1) valve) ≡ outcome keep (one proposer (promise 1 0 None (rejected_by 1)))
   -- accept 1 after A1: Ok
-  pub A3 : on (after fresh_table (Message.ProposeReq (b 1) valve)) (Message.AcceptReq (b 1) valve position) ≡ outcome (put 0 (register valve (b 1) (b 1) position)) (one proposer (Message.AcceptRes (b 1) Result.Ok))
+  pub A3 : on (after fresh_table (Message.ProposeReq (b 1) valve)) (Message.AcceptReq (b 1) valve position) ≡ outcome (put 0 (register valve (b 1) (b 1) position)) (one proposer (Message.AcceptRes (b 1) Verdict.Granted))
   -- fresh, propose 0: rejected, last 0, no block taken
   pub A4 : on fresh_table (Message.ProposeReq (b 0) valve) ≡ outcome keep (one proposer (promise 0 0 None (rejected_by 0)))
   -- fresh, accept 0: Ok, block taken
-  pub A5 : on fresh_table (Message.AcceptReq (b 0) valve position) ≡ outcome (put 0 (register valve (b 0) (b 0) position)) (one proposer (Message.AcceptRes (b 0) Result.Ok))
+  pub A5 : on fresh_table (Message.AcceptReq (b 0) valve position) ≡ outcome (put 0 (register valve (b 0) (b 0) position)) (one proposer (Message.AcceptRes (b 0) Verdict.Granted))
   -- seen 3, accept 2: rejected, last 3
   pub A6 : on (after fresh_table (Message.ProposeReq (b 3) valve)) (Message.AcceptReq (b 2) valve position) ≡ outcome keep (one proposer (Message.AcceptRes (b 2) (refused_by 3)))
   -- block with empty key, seen 1, accepted 0, none: sums 2 and 10

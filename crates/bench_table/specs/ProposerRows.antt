@@ -5,7 +5,7 @@ use Rattle.std.specs.Prelude.{Option, None, Some}
 use Rattle.messages.specs.declared.Address.{Address}
 use Rattle.messages.specs.declared.Ballot.{Ballot}
 use Rattle.messages.specs.declared.answer.Refusal.{Refusal}
-use Rattle.messages.specs.Message.{Key, Value, Request, Failure, Result, Reply, Message}
+use Rattle.messages.specs.Message.{Key, Value, Request, Failure, Verdict, Reply, Message}
 use Rattle.messages.specs.Limits.{none_zero, list_fits, within_limits}
 use Rattle.messages.specs.Answers.{Told, nothing, one, each, timeouts, refused}
 use Rattle.leaf_fields.specs.Fields.{same}
@@ -39,13 +39,13 @@ abbrev pub answered : Proposer → ℕ → Message → Outcome
 answered s from m = receive s (address from) 0 m
 
 abbrev pub no : ℕ → ℕ → Message
-no ballot last = Message.ProposeRes (b ballot) (b 0) None (Result.Err (Failure.ProposalRejected (b last)))
+no ballot last = Message.ProposeRes (b ballot) (b 0) None (Verdict.Denied (Failure.ProposalRejected (b last)))
 
 abbrev pub promise : ℕ → ℕ → Option Value → Message
-promise ballot accepted v = Message.ProposeRes (b ballot) (b accepted) v Result.Ok
+promise ballot accepted v = Message.ProposeRes (b ballot) (b accepted) v Verdict.Granted
 
 abbrev pub yes : ℕ → Message
-yes ballot = Message.AcceptRes (b ballot) Result.Ok
+yes ballot = Message.AcceptRes (b ballot) Verdict.Granted
 
 abbrev pub told_client : Reply → Told
 told_client r = one (address 9) (Message.ClientResponse 77 r)

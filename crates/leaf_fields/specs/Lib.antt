@@ -2,3 +2,4 @@ pub mod Fields
 pub mod Laws
 pub mod Rows
 pub mod Stores
+pub mod Chains

@@ -1,7 +1,7 @@
 -- Stores into rows of bytes: into joined rows, one run behind another, into zeros; padded rows; a part that is lent and comes back.
 -- Assumes nothing.
 use Rattle.std.specs.Prelude.{◌≡◌, refl, List, [], ◌∷◌, ◌++◌, ℕ, zero, suc, ◌+◌, ◌-◌, ◌≤◌, length, take, drop, set, replicate}
-use Rattle.std.proofs.Common.{sym, ap, ◌∙◌, append_assoc, append-nil, zero-add, suc-add, arith, length-set, length-append, take_at, drop_at}
+use Rattle.std.proofs.Common.{sym, ap, ◌∙◌, append_assoc, append-nil, zero-add, suc-add, arith, length-set, length-append, take_at, drop_at, drop-drop}
 use borrow.Rule.Slice.PartMut.{put_mid}
 use Rattle.std.proofs.lemmas.List.{length-replicate, set-append_left}
 use Rattle.std.proofs.lemmas.List.Edits.{sets, sets-eq}
@@ -92,3 +92,11 @@ put_middle p q s ys a k hp hq =
     let front : take a (p ++ (q ++ s)) ≡ p = take_at p (q ++ s) a hp in
     let behind : drop k (drop a (p ++ (q ++ s))) ≡ s = ap (drop k) (drop_at p (q ++ s) a hp) ∙ drop_at q s k hq in
     rw (front, behind)
+
+-- what comes back, as long as what went out, stands where the part was
+pub put_part : (d ys : List ℕ) (a k : ℕ) → k ≡ length ys → a + length ys ≤ length d → put_mid a k d ys ≡ sets d a ys
+put_part d ys a k e room =
+    ap (λ (j : ℕ). put_mid a j d ys) e
+    ∙ ap (λ (r : List ℕ). take a d ++ (ys ++ r)) (drop-drop (length ys) a d)
+    ∙ sym (append_assoc (take a d) ys (drop (a + length ys) d))
+    ∙ sym (sets-eq ys d a room)

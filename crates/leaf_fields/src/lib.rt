@@ -1,7 +1,8 @@
 // Bytes: little-endian numbers of any width, copies, and runs of zeros. What the block, the area and later the frames are made of.
 #![tactic(auto)]
 
-ghost use Rattle.std.specs.Prelude.{◌≡◌, ◌+◌, ◌≤◌, ◌<◌, ◌^◌, length, replicate};
+ghost use Rattle.std.specs.Prelude.{◌≡◌, ℕ, ◌+◌, ◌≤◌, ◌<◌, ◌^◌, length, replicate};
+ghost use Rattle.std.proofs.Common.{lit≤};
 ghost use Rattle.std.proofs.lemmas.List.Edits.{sets};
 ghost use Rattle.leaf_fields.specs.Fields.{from_le, to_le, part, all_zero, same};
 
@@ -11,9 +12,7 @@ pub fn get(s: &[u8], at: usize, n: usize) -> u64
     ensures { (result ≡ from_le (part s.now at n)) × (result < 256 ^ n) }
 {
     let mut x: u64 = 0;
-    let mut i = n;
-    while 0 < i {
-        i -= 1;
+    for i in (0..n).rev() {
         x = x * 256 + s[at + i] as u64;
     }
     x
@@ -25,34 +24,100 @@ pub fn put(d: &mut [u8], at: usize, n: usize, x: u64)
     ensures { d.new ≡ sets d.old at (to_le n x) }
 {
     let mut rest = x;
-    let mut i = 0;
-    while i < n {
+    for i in 0..n {
         d[at + i] = (rest % 256) as u8;
-        rest = rest / 256;
-        i += 1;
+        rest /= 256;
     }
 }
 
-// The widths of document 01. Each cast is lossless by the bound that `get` ensures.
-pub fn get16(s: &[u8], at: usize) -> u16
-    requires { at + 2 ≤ length s.now }
-    ensures { result ≡ from_le (part s.now at 2) }
-{
-    get(s, at, 2) as u16
+// A number of one of 01's widths.
+pub trait Number: Sized {
+    ghost WIDTH: { ℕ };
+
+    ghost value: { Self → ℕ };
+
+    ghost laws: { WIDTH ≤ 8 };
+
+    // In bytes.
+    const WIDTH: usize;
+
+    // The number that x is, where it has no more digits than the width.
+    fn narrow(x: u64) -> Self
+        requires { x < 256 ^ WIDTH }
+        ensures { value result ≡ x };
+
+    fn wide(self) -> u64
+        ensures { result ≡ value self };
 }
 
-pub fn get32(s: &[u8], at: usize) -> u32
-    requires { at + 4 ≤ length s.now }
-    ensures { result ≡ from_le (part s.now at 4) }
-{
-    get(s, at, 4) as u32
+impl Number for u16 {
+    ghost WIDTH = { 2 };
+
+    ghost value = { λ x. x };
+
+    ghost laws = { lit≤ tt };
+
+    const WIDTH: usize = 2;
+
+    fn narrow(x: u64) -> u16 {
+        x as u16
+    }
+
+    fn wide(self) -> u64 {
+        u64::from(self)
+    }
 }
 
-pub fn get64(s: &[u8], at: usize) -> u64
-    requires { at + 8 ≤ length s.now }
-    ensures { result ≡ from_le (part s.now at 8) }
+impl Number for u32 {
+    ghost WIDTH = { 4 };
+
+    ghost value = { λ x. x };
+
+    ghost laws = { lit≤ tt };
+
+    const WIDTH: usize = 4;
+
+    fn narrow(x: u64) -> u32 {
+        x as u32
+    }
+
+    fn wide(self) -> u64 {
+        u64::from(self)
+    }
+}
+
+impl Number for u64 {
+    ghost WIDTH = { 8 };
+
+    ghost value = { λ x. x };
+
+    ghost laws = { lit≤ tt };
+
+    const WIDTH: usize = 8;
+
+    fn narrow(x: u64) -> u64 {
+        x
+    }
+
+    fn wide(self) -> u64 {
+        self
+    }
+}
+
+// The number that stands at `at`.
+pub fn read<T: Number>(s: &[u8], at: usize) -> T
+    requires { at + T.WIDTH ≤ length s.now }
+    ensures { T.value result ≡ from_le (part s.now at T.WIDTH) }
 {
-    get(s, at, 8)
+    T::narrow(get(s, at, T::WIDTH))
+}
+
+// A number, stored at `at`.
+pub fn write<T: Number>(d: &mut [u8], at: usize, x: T)
+    requires { at + T.WIDTH ≤ length d.old }
+    ensures { d.new ≡ sets d.old at (to_le T.WIDTH (T.value x)) }
+{
+    put(d, at, T::WIDTH, x.wide())
 }
 
 // All of s, stored at `at`.
@@ -60,51 +125,26 @@ pub fn copy(d: &mut [u8], at: usize, s: &[u8])
     requires { at + length s.now ≤ length d.old }
     ensures { d.new ≡ sets d.old at s.now }
 {
-    let mut i = 0;
-    while i < s.len() {
-        d[at + i] = s[i];
-        i += 1;
-    }
+    d[at..at + s.len()].copy_from_slice(s);
 }
 
 // Zeros throughout.
 pub fn clear(d: &mut [u8])
     ensures { d.new ≡ replicate (length d.old) 0 }
 {
-    let mut i = 0;
-    while i < d.len() {
-        d[i] = 0;
-        i += 1;
-    }
+    d.fill(0);
 }
 
 // Whether every byte is zero.
 pub fn zeros(s: &[u8]) -> bool
     ensures { result ≡ all_zero s.now }
 {
-    let mut i = 0;
-    while i < s.len() {
-        if s[i] != 0 {
-            return false;
-        }
-        i += 1;
-    }
-    true
+    s.iter().all(|b| *b == 0)
 }
 
-// Whether two rows have the same bytes.
+// Whether two rows have the same bytes: `==`, as the definitions say it, by recursion.
 pub fn same(a: &[u8], b: &[u8]) -> bool
     ensures { result ≡ same a.now b.now }
 {
-    if a.len() != b.len() {
-        return false;
-    }
-    let mut i = 0;
-    while i < a.len() {
-        if a[i] != b[i] {
-            return false;
-        }
-        i += 1;
-    }
-    true
+    a == b
 }

@@ -4,7 +4,7 @@
 ghost use Rattle.std.specs.Prelude.{◌≡◌, ◌≤◌, length};
 ghost use Rattle.leaf_sums.specs.Sums.{plain_sum, placed_sum};
 
-#[derive(Clone, Copy)]
+#[derive(Clone, Copy, PartialEq, Eq)]
 pub struct Sums {
     pub plain: u32,
     pub placed: u32,
@@ -17,12 +17,9 @@ pub fn form(s: &[u8]) -> Sums
 {
     let mut plain: u32 = 0;
     let mut placed: u32 = 0;
-    let mut i = 0;
-    while i < s.len() {
-        let b = s[i] as u32;
-        plain += b;
-        placed += (i as u32 + 1) * b;
-        i += 1;
+    for (i, b) in s.iter().enumerate() {
+        plain += *b as u32;
+        placed += (i as u32 + 1) * *b as u32;
     }
     Sums { plain, placed }
 }

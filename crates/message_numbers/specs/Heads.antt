@@ -1,15 +1,13 @@
 -- A message in eight numbers: which message they are, and which numbers a message is. The numbers of kinds, requests and results are those of include/mirkaspel.h.
 -- Assumes nothing.
-use Rattle.std.specs.Prelude.{◌≡◌, refl, cond, List, ℕ, eqb, get_or}
+use Rattle.messages.specs.Message.{lent}
+use Rattle.std.specs.Prelude.{◌≡◌, refl, cond, List, ℕ, eqb, get_or, Option, None, Some, Result, Ok, Err, option_map, unwrap_or}
 use Rattle.messages.specs.declared.Ballot.{Ballot}
-use Rattle.messages.specs.declared.OptionValue.{OptionValue}
+use Rattle.messages.specs.declared.Lent.{Lent}
 use Rattle.messages.specs.declared.Req.{Req}
 use Rattle.messages.specs.declared.Error.{Error}
-use Rattle.messages.specs.declared.Res.{Res}
-use Rattle.messages.specs.declared.Response.{Response}
 use Rattle.messages.specs.declared.Rpc.{Rpc}
 use Rattle.message_numbers.specs.declared.head.Head.{Head}
-use Rattle.message_numbers.specs.declared.head.Verdict.{Verdict}
 
 -- ---- from numbers to a message
 
@@ -30,68 +28,60 @@ abbrev ballot : ℕ → Ballot
 ballot n = record { 0 = n }
 
 -- 0 is no value, any other number a value
-abbrev pub mark_of : ℕ → OptionValue
-mark_of n = cond (eqb n 0) OptionValue.None OptionValue.Some
+abbrev pub mark_of : ℕ → Option Lent
+mark_of n = cond (eqb n 0) None (Some lent)
+
+-- the result that a head has, if 01 has its number
+abbrev pub verdict_of : Head → Option (Result Unit Error)
+verdict_of h =
+    cond (eqb h.result 0) (Some (Ok tt))
+    (cond (eqb h.result 1) (Some (Err (Error.ProposalRejected (ballot h.last))))
+    (cond (eqb h.result 2) (Some (Err (Error.AcceptRejected (ballot h.last))))
+    (cond (eqb h.result 3) (Some (Err (Error.CasFailed (mark_of h.other))))
+    (cond (eqb h.result 4) (Some (Err Error.Timeout)) None))))
+
+-- the request, if 01 has its number
+abbrev pub request_of : Head → Option Req
+request_of h =
+    cond (eqb h.request 1) (Some Req.Get)
+    (cond (eqb h.request 2) (Some Req.Del)
+    (cond (eqb h.request 3) (Some Req.Set)
+    (cond (eqb h.request 4) (Some (Req.Cas (mark_of h.value) (mark_of h.other))) None)))
+
+abbrev pub response_of : Head → Result Unit Error → Rpc
+response_of h (Ok done) = Rpc.ClientResponse h.number (Ok (mark_of h.value))
+response_of h (Err e) = Rpc.ClientResponse h.number (Err e)
+
+abbrev pub promise_of : Head → Result Unit Error → Rpc
+promise_of h r = Rpc.ProposeRes (ballot h.number) (ballot h.accepted) (mark_of h.value) r
+
+abbrev pub acceptance_of : Head → Result Unit Error → Rpc
+acceptance_of h r = Rpc.AcceptRes (ballot h.number) r
+
+-- the message of a head, if 01 has its kind, its request and its result
+abbrev pub known_in : Head → Option Rpc
+known_in h =
+    cond (eqb h.kind 1) (option_map (Rpc.ClientRequest h.number) (request_of h))
+    (cond (eqb h.kind 2) (option_map (response_of h) (verdict_of h))
+    (cond (eqb h.kind 3) (Some Rpc.SetAcceptAcceptors)
+    (cond (eqb h.kind 4) (Some Rpc.SetProposeAcceptors)
+    (cond (eqb h.kind 5) (Some (Rpc.ProposeReq (ballot h.number)))
+    (cond (eqb h.kind 6) (option_map (promise_of h) (verdict_of h))
+    (cond (eqb h.kind 7) (Some (Rpc.AcceptReq (ballot h.number) (mark_of h.value)))
+    (cond (eqb h.kind 8) (option_map (acceptance_of h) (verdict_of h)) None)))))))
 
 -- a message that is for neither party: what numbers without a meaning are
 abbrev pub unknown : Rpc
-unknown = Rpc.ClientResponse 0 (Response.Err Error.Timeout)
-
-abbrev pub verdict_of : Head → Verdict
-verdict_of h =
-    cond (eqb h.result 0) Verdict.Ok
-    (cond (eqb h.result 1) (Verdict.Err (Error.ProposalRejected (ballot h.last)))
-    (cond (eqb h.result 2) (Verdict.Err (Error.AcceptRejected (ballot h.last)))
-    (cond (eqb h.result 3) (Verdict.Err (Error.CasFailed (mark_of h.other)))
-    (cond (eqb h.result 4) (Verdict.Err Error.Timeout) Verdict.Unknown))))
-
-abbrev pub request_in : Head → Rpc
-request_in h =
-    cond (eqb h.request 1) (Rpc.ClientRequest h.number Req.Get)
-    (cond (eqb h.request 2) (Rpc.ClientRequest h.number Req.Del)
-    (cond (eqb h.request 3) (Rpc.ClientRequest h.number Req.Set)
-    (cond (eqb h.request 4) (Rpc.ClientRequest h.number (Req.Cas (mark_of h.value) (mark_of h.other))) unknown)))
-
-abbrev pub response_of : Head → Verdict → Rpc
-response_of h Verdict.Ok = Rpc.ClientResponse h.number (Response.Ok (mark_of h.value))
-response_of h (Verdict.Err e) = Rpc.ClientResponse h.number (Response.Err e)
-response_of h Verdict.Unknown = unknown
-
-abbrev pub response_in : Head → Rpc
-response_in h = response_of h (verdict_of h)
-
-abbrev pub promise_of : Head → Verdict → Rpc
-promise_of h Verdict.Ok = Rpc.ProposeRes (ballot h.number) (ballot h.accepted) (mark_of h.value) Res.Ok
-promise_of h (Verdict.Err e) = Rpc.ProposeRes (ballot h.number) (ballot h.accepted) (mark_of h.value) (Res.Err e)
-promise_of h Verdict.Unknown = unknown
-
-abbrev pub promise_in : Head → Rpc
-promise_in h = promise_of h (verdict_of h)
-
-abbrev pub acceptance_of : Head → Verdict → Rpc
-acceptance_of h Verdict.Ok = Rpc.AcceptRes (ballot h.number) Res.Ok
-acceptance_of h (Verdict.Err e) = Rpc.AcceptRes (ballot h.number) (Res.Err e)
-acceptance_of h Verdict.Unknown = unknown
-
-abbrev pub acceptance_in : Head → Rpc
-acceptance_in h = acceptance_of h (verdict_of h)
+unknown = Rpc.ClientResponse 0 (Err Error.Timeout)
 
 abbrev pub message_in : Head → Rpc
-message_in h =
-    cond (eqb h.kind 1) (request_in h)
-    (cond (eqb h.kind 2) (response_in h)
-    (cond (eqb h.kind 3) Rpc.SetAcceptAcceptors
-    (cond (eqb h.kind 4) Rpc.SetProposeAcceptors
-    (cond (eqb h.kind 5) (Rpc.ProposeReq (ballot h.number))
-    (cond (eqb h.kind 6) (promise_in h)
-    (cond (eqb h.kind 7) (Rpc.AcceptReq (ballot h.number) (mark_of h.value))
-    (cond (eqb h.kind 8) (acceptance_in h) unknown)))))))
+message_in h = unwrap_or (known_in h) unknown
 
 -- ---- from a message to numbers
 
-abbrev pub mark_number : OptionValue → ℕ
-mark_number OptionValue.None = 0
-mark_number OptionValue.Some = 1
+abbrev pub mark_number : Option Lent → ℕ
+mark_number None = 0
+mark_number (Some mark) = 1
 
 abbrev pub plain : ℕ → ℕ → Head
 plain k n = record { kind = k; number = n; request = 0; value = 0; other = 0; accepted = 0; result = 0; last = 0 }
@@ -125,16 +115,16 @@ with_failure h (Error.AcceptRejected b) = failing h 2 0 b.0
 with_failure h (Error.CasFailed o) = failing h 3 (mark_number o) 0
 with_failure h Error.Timeout = failing h 4 0 0
 
-abbrev pub with_result : Head → Res → Head
-with_result h Res.Ok = h
-with_result h (Res.Err e) = with_failure h e
+abbrev pub with_result : Head → Result Unit Error → Head
+with_result h (Ok done) = h
+with_result h (Err e) = with_failure h e
 
-abbrev pub carrying : ℕ → ℕ → ℕ → OptionValue → Head
+abbrev pub carrying : ℕ → ℕ → ℕ → Option Lent → Head
 carrying k n a o = record { kind = k; number = n; request = 0; value = mark_number o; other = 0; accepted = a; result = 0; last = 0 }
 
-abbrev pub response_head : ℕ → Response → Head
-response_head id (Response.Ok o) = carrying 2 id 0 o
-response_head id (Response.Err e) = with_failure (plain 2 id) e
+abbrev pub response_head : ℕ → Result (Option Lent) Error → Head
+response_head id (Ok o) = carrying 2 id 0 o
+response_head id (Err e) = with_failure (plain 2 id) e
 
 abbrev pub head_of : Rpc → Head
 head_of (Rpc.ClientRequest id r) = request_head id r
@@ -148,31 +138,31 @@ head_of (Rpc.AcceptRes b r) = with_result (plain 8 b.0) r
 
 -- ---- a message's numbers are that message again
 
-mark_back : (o : OptionValue) → mark_of (mark_number o) ≡ o
-mark_back OptionValue.None = refl
-mark_back OptionValue.Some = refl
+mark_back : (o : Option Lent) → mark_of (mark_number o) ≡ o
+mark_back None = refl
+mark_back (Some mark) = refl
 
 pub message_back : (m : Rpc) → message_in (head_of m) ≡ m
 message_back (Rpc.ClientRequest id Req.Get) = refl
 message_back (Rpc.ClientRequest id Req.Del) = refl
 message_back (Rpc.ClientRequest id Req.Set) = refl
 message_back (Rpc.ClientRequest id (Req.Cas old new)) = rw (mark_back old, mark_back new)
-message_back (Rpc.ClientResponse id (Response.Ok o)) = rw (mark_back o)
-message_back (Rpc.ClientResponse id (Response.Err (Error.ProposalRejected b))) = refl
-message_back (Rpc.ClientResponse id (Response.Err (Error.AcceptRejected b))) = refl
-message_back (Rpc.ClientResponse id (Response.Err (Error.CasFailed o))) = rw (mark_back o)
-message_back (Rpc.ClientResponse id (Response.Err Error.Timeout)) = refl
+message_back (Rpc.ClientResponse id (Ok o)) = rw (mark_back o)
+message_back (Rpc.ClientResponse id (Err (Error.ProposalRejected b))) = refl
+message_back (Rpc.ClientResponse id (Err (Error.AcceptRejected b))) = refl
+message_back (Rpc.ClientResponse id (Err (Error.CasFailed o))) = rw (mark_back o)
+message_back (Rpc.ClientResponse id (Err Error.Timeout)) = refl
 message_back Rpc.SetAcceptAcceptors = refl
 message_back Rpc.SetProposeAcceptors = refl
 message_back (Rpc.ProposeReq b) = refl
-message_back (Rpc.ProposeRes b a o Res.Ok) = rw (mark_back o)
-message_back (Rpc.ProposeRes b a o (Res.Err (Error.ProposalRejected l))) = rw (mark_back o)
-message_back (Rpc.ProposeRes b a o (Res.Err (Error.AcceptRejected l))) = rw (mark_back o)
-message_back (Rpc.ProposeRes b a o (Res.Err (Error.CasFailed v))) = rw (mark_back o, mark_back v)
-message_back (Rpc.ProposeRes b a o (Res.Err Error.Timeout)) = rw (mark_back o)
+message_back (Rpc.ProposeRes b a o (Ok done)) = rw (mark_back o)
+message_back (Rpc.ProposeRes b a o (Err (Error.ProposalRejected l))) = rw (mark_back o)
+message_back (Rpc.ProposeRes b a o (Err (Error.AcceptRejected l))) = rw (mark_back o)
+message_back (Rpc.ProposeRes b a o (Err (Error.CasFailed v))) = rw (mark_back o, mark_back v)
+message_back (Rpc.ProposeRes b a o (Err Error.Timeout)) = rw (mark_back o)
 message_back (Rpc.AcceptReq b o) = rw (mark_back o)
-message_back (Rpc.AcceptRes b Res.Ok) = refl
-message_back (Rpc.AcceptRes b (Res.Err (Error.ProposalRejected l))) = refl
-message_back (Rpc.AcceptRes b (Res.Err (Error.AcceptRejected l))) = refl
-message_back (Rpc.AcceptRes b (Res.Err (Error.CasFailed v))) = rw (mark_back v)
-message_back (Rpc.AcceptRes b (Res.Err Error.Timeout)) = refl
+message_back (Rpc.AcceptRes b (Ok done)) = refl
+message_back (Rpc.AcceptRes b (Err (Error.ProposalRejected l))) = refl
+message_back (Rpc.AcceptRes b (Err (Error.AcceptRejected l))) = refl
+message_back (Rpc.AcceptRes b (Err (Error.CasFailed v))) = rw (mark_back v)
+message_back (Rpc.AcceptRes b (Err Error.Timeout)) = refl

@@ -2,7 +2,7 @@
 ghost use Rattle.std.specs.Prelude.{◌≡◌};
 ghost use Rattle.message_numbers.specs.Answers.{answer_numbers, refusal_of, numbers_after};
 
-use super::head::{Head, head_of, plain};
+use super::head::{Head, ZEROS};
 use messages::Answer;
 
 // The numbers of include/mirkaspel.h: the answer's kind, the addressee, how many entries and rows, the lengths of the value and of the key,
@@ -41,20 +41,8 @@ pub fn refusal_of(answer: Answer) -> u8
     ensures { result ≡ refusal_of answer }
 {
     match answer {
-        Answer::Nothing => 0,
-        Answer::Message {
-            to: _,
-            rpc: _,
-            value_len: _,
-        } => 0,
-        Answer::Broadcast {
-            rpc: _,
-            entries: _,
-            key_len: _,
-            value_len: _,
-        } => 0,
-        Answer::Timeouts(_) => 0,
         Answer::Refused(r) => r.number(),
+        _ => 0,
     }
 }
 
@@ -62,28 +50,19 @@ pub fn refusal_of(answer: Answer) -> u8
 pub fn hand_back(answer: Answer, out: &mut [u64; 14]) -> u8
     ensures { (result ≡ refusal_of answer) × (out.new ≡ numbers_after out.old answer) }
 {
-    match answer {
-        Answer::Nothing => {
-            *out = numbers(0, 0, 0, 0, 0, 0, plain(0, 0));
-            0
-        }
+    *out = match answer {
+        Answer::Nothing => numbers(0, 0, 0, 0, 0, 0, ZEROS),
         Answer::Message { to, rpc, value_len } => {
-            *out = numbers(1, to.0 as u64, 0, 0, value_len, 0, head_of(rpc));
-            0
+            numbers(1, to.0 as u64, 0, 0, value_len, 0, Head::from(rpc))
         }
         Answer::Broadcast {
             rpc,
             entries,
             key_len,
             value_len,
-        } => {
-            *out = numbers(2, 0, entries, 0, value_len, key_len, head_of(rpc));
-            0
-        }
-        Answer::Timeouts(rows) => {
-            *out = numbers(3, 0, 0, rows, 0, 0, plain(0, 0));
-            0
-        }
-        Answer::Refused(r) => r.number(),
-    }
+        } => numbers(2, 0, entries, 0, value_len, key_len, Head::from(rpc)),
+        Answer::Timeouts(rows) => numbers(3, 0, 0, rows, 0, 0, ZEROS),
+        Answer::Refused(r) => return r.number(),
+    };
+    0
 }

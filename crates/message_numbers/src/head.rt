@@ -5,27 +5,18 @@ ghost use Rattle.message_numbers.specs.Heads.{
   mark_of,
   mark_number,
   verdict_of,
-  request_in,
-  response_in,
-  promise_in,
-  acceptance_in,
+  request_of,
+  known_in,
   message_in,
-  plain,
-  asking,
-  request_head,
-  failing,
-  carrying,
-  with_failure,
-  response_head,
   with_result,
   head_of,
 };
 
-use messages::{Ballot, Error, OptionValue, Req, Res, Response, Rpc};
+use messages::{Ballot, Error, Lent, Req, Rpc};
 
 // The numbers of include/mirkaspel.h: the kinds are 1 to 8 in the order of Rpc, the requests 1 to 4 in that of Req, the results 0 for Ok and
 // 1 to 4 for the errors in their order. A number that a kind has no use for is not looked at, and is 0 in an answer.
-#[derive(Clone, Copy)]
+#[derive(Clone, Copy, PartialEq, Eq)]
 pub struct Head {
     pub kind: u64,
     // a client's id, or the ballot
@@ -41,295 +32,221 @@ pub struct Head {
     pub last: u64,
 }
 
-// What a result's number says.
-#[derive(Clone, Copy)]
-pub enum Verdict {
-    Ok,
-    Err(Error),
-    Unknown,
-}
+// The head of no message, which the others begin with.
+pub const ZEROS: Head = Head {
+    kind: 0,
+    number: 0,
+    request: 0,
+    value: 0,
+    other: 0,
+    accepted: 0,
+    result: 0,
+    last: 0,
+};
 
 // The head that eight numbers are.
-pub fn take_head(m: &[u64; 8]) -> Head
-    ensures { result ≡ head_in m.now }
-{
-    Head {
-        kind: m[0],
-        number: m[1],
-        request: m[2],
-        value: m[3],
-        other: m[4],
-        accepted: m[5],
-        result: m[6],
-        last: m[7],
+impl From<[u64; 8]> for Head {
+    ghost from_gives = { λ m h. h ≡ head_in m };
+
+    fn from(m: [u64; 8]) -> Head {
+        Head {
+            kind: m[0],
+            number: m[1],
+            request: m[2],
+            value: m[3],
+            other: m[4],
+            accepted: m[5],
+            result: m[6],
+            last: m[7],
+        }
     }
 }
 
-fn mark_of(n: u64) -> OptionValue
+fn mark_of(n: u64) -> Option<Lent>
     ensures { result ≡ mark_of n }
 {
-    if n == 0 {
-        return OptionValue::None;
-    }
-    OptionValue::Some
+    if n == 0 { None } else { Some(Lent) }
 }
 
-fn mark_number(o: OptionValue) -> u64
+fn mark_number(o: Option<Lent>) -> u64
     ensures { result ≡ mark_number o }
 {
     match o {
-        OptionValue::None => 0,
-        OptionValue::Some => 1,
+        None => 0,
+        Some(_) => 1,
     }
 }
 
-// A kind, a request or a result that 01 doesn't have makes a message that is for neither party: both refuse a client's response by 3.
-fn unknown() -> Rpc
-    ensures { result ≡ Rpc.ClientResponse 0 (Response.Err Error.Timeout) }
-{
-    Rpc::ClientResponse(0, Response::Err(Error::Timeout))
-}
+impl Head {
+    // What the result's number says, if 01 has it.
+    fn verdict(self) -> Option<Result<(), Error>>
+        ensures { result ≡ verdict_of self }
+    {
+        let last = Ballot(self.last);
+        match self.result {
+            0 => Some(Ok(())),
+            1 => Some(Err(Error::ProposalRejected { last })),
+            2 => Some(Err(Error::AcceptRejected { last })),
+            3 => Some(Err(Error::CasFailed(mark_of(self.other)))),
+            4 => Some(Err(Error::Timeout)),
+            _ => None,
+        }
+    }
 
-fn verdict_of(h: Head) -> Verdict
-    ensures { result ≡ verdict_of h }
-{
-    if h.result == 0 {
-        return Verdict::Ok;
+    // The request, if 01 has its number.
+    fn request(self) -> Option<Req>
+        ensures { result ≡ request_of self }
+    {
+        match self.request {
+            1 => Some(Req::Get),
+            2 => Some(Req::Del),
+            3 => Some(Req::Set),
+            4 => Some(Req::Cas {
+                old: mark_of(self.value),
+                new: mark_of(self.other),
+            }),
+            _ => None,
+        }
     }
-    if h.result == 1 {
-        return Verdict::Err(Error::ProposalRejected {
-            last: Ballot(h.last),
-        });
-    }
-    if h.result == 2 {
-        return Verdict::Err(Error::AcceptRejected {
-            last: Ballot(h.last),
-        });
-    }
-    if h.result == 3 {
-        return Verdict::Err(Error::CasFailed(mark_of(h.other)));
-    }
-    if h.result == 4 {
-        return Verdict::Err(Error::Timeout);
-    }
-    Verdict::Unknown
-}
 
-fn request_in(h: Head) -> Rpc
-    ensures { result ≡ request_in h }
-{
-    if h.request == 1 {
-        return Rpc::ClientRequest(h.number, Req::Get);
+    // The message, if 01 has its kind, its request and its result.
+    fn known(self) -> Option<Rpc>
+        ensures { result ≡ known_in self }
+    {
+        let ballot = Ballot(self.number);
+        let value = mark_of(self.value);
+        match self.kind {
+            1 => Some(Rpc::ClientRequest(self.number, self.request()?)),
+            2 => match self.verdict()? {
+                Ok(_) => Some(Rpc::ClientResponse(self.number, Ok(value))),
+                Err(e) => Some(Rpc::ClientResponse(self.number, Err(e))),
+            },
+            3 => Some(Rpc::SetAcceptAcceptors),
+            4 => Some(Rpc::SetProposeAcceptors),
+            5 => Some(Rpc::ProposeReq(ballot)),
+            6 => Some(Rpc::ProposeRes {
+                req_ballot: ballot,
+                last_accepted_ballot: Ballot(self.accepted),
+                last_accepted_value: value,
+                res: self.verdict()?,
+            }),
+            7 => Some(Rpc::AcceptReq(ballot, value)),
+            8 => Some(Rpc::AcceptRes(ballot, self.verdict()?)),
+            _ => None,
+        }
     }
-    if h.request == 2 {
-        return Rpc::ClientRequest(h.number, Req::Del);
-    }
-    if h.request == 3 {
-        return Rpc::ClientRequest(h.number, Req::Set);
-    }
-    if h.request == 4 {
-        let old = mark_of(h.value);
-        let new = mark_of(h.other);
-        return Rpc::ClientRequest(h.number, Req::Cas { old: old, new: new });
-    }
-    unknown()
-}
 
-fn response_in(h: Head) -> Rpc
-    ensures { result ≡ response_in h }
-{
-    match verdict_of(h) {
-        Verdict::Ok => Rpc::ClientResponse(h.number, Response::Ok(mark_of(h.value))),
-        Verdict::Err(e) => Rpc::ClientResponse(h.number, Response::Err(e)),
-        Verdict::Unknown => unknown(),
-    }
-}
-
-fn promise_in(h: Head) -> Rpc
-    ensures { result ≡ promise_in h }
-{
-    let value = mark_of(h.value);
-    match verdict_of(h) {
-        Verdict::Ok => Rpc::ProposeRes {
-            req_ballot: Ballot(h.number),
-            last_accepted_ballot: Ballot(h.accepted),
-            last_accepted_value: value,
-            res: Res::Ok,
-        },
-        Verdict::Err(e) => Rpc::ProposeRes {
-            req_ballot: Ballot(h.number),
-            last_accepted_ballot: Ballot(h.accepted),
-            last_accepted_value: value,
-            res: Res::Err(e),
-        },
-        Verdict::Unknown => unknown(),
-    }
-}
-
-fn acceptance_in(h: Head) -> Rpc
-    ensures { result ≡ acceptance_in h }
-{
-    match verdict_of(h) {
-        Verdict::Ok => Rpc::AcceptRes(Ballot(h.number), Res::Ok),
-        Verdict::Err(e) => Rpc::AcceptRes(Ballot(h.number), Res::Err(e)),
-        Verdict::Unknown => unknown(),
-    }
-}
-
-// The message of a head.
-pub fn message_in(h: Head) -> Rpc
-    ensures { result ≡ message_in h }
-{
-    if h.kind == 1 {
-        return request_in(h);
-    }
-    if h.kind == 2 {
-        return response_in(h);
-    }
-    if h.kind == 3 {
-        return Rpc::SetAcceptAcceptors;
-    }
-    if h.kind == 4 {
-        return Rpc::SetProposeAcceptors;
-    }
-    if h.kind == 5 {
-        return Rpc::ProposeReq(Ballot(h.number));
-    }
-    if h.kind == 6 {
-        return promise_in(h);
-    }
-    if h.kind == 7 {
-        return Rpc::AcceptReq(Ballot(h.number), mark_of(h.value));
-    }
-    if h.kind == 8 {
-        return acceptance_in(h);
-    }
-    unknown()
-}
-
-// A head with a kind and a number, and nothing else.
-pub fn plain(kind: u64, number: u64) -> Head
-    ensures { result ≡ plain kind number }
-{
-    Head {
-        kind: kind,
-        number: number,
-        request: 0,
-        value: 0,
-        other: 0,
-        accepted: 0,
-        result: 0,
-        last: 0,
+    // A head with a result.
+    fn with_result(self, res: Result<(), Error>) -> Head
+        ensures { result ≡ with_result self res }
+    {
+        match res {
+            Ok(_) => self,
+            Err(Error::ProposalRejected { last }) => Head {
+                result: 1,
+                other: 0,
+                last: last.0,
+                ..self
+            },
+            Err(Error::AcceptRejected { last }) => Head {
+                result: 2,
+                other: 0,
+                last: last.0,
+                ..self
+            },
+            Err(Error::CasFailed(o)) => Head {
+                result: 3,
+                other: mark_number(o),
+                last: 0,
+                ..self
+            },
+            Err(Error::Timeout) => Head {
+                result: 4,
+                other: 0,
+                last: 0,
+                ..self
+            },
+        }
     }
 }
 
-fn asking(id: u64, request: u64, value: u64, other: u64) -> Head
-    ensures { result ≡ asking id request value other }
-{
-    Head {
-        kind: 1,
-        number: id,
-        request: request,
-        value: value,
-        other: other,
-        accepted: 0,
-        result: 0,
-        last: 0,
-    }
-}
+// The message of a head. A kind, a request or a result that 01 doesn't have makes a message that is for neither party: both refuse a client's
+// response by 3.
+impl From<Head> for Rpc {
+    ghost from_gives = { λ h rpc. rpc ≡ message_in h };
 
-fn request_head(id: u64, req: Req) -> Head
-    ensures { result ≡ request_head id req }
-{
-    match req {
-        Req::Get => asking(id, 1, 0, 0),
-        Req::Del => asking(id, 2, 0, 0),
-        Req::Set => asking(id, 3, 0, 0),
-        Req::Cas { old, new } => asking(id, 4, mark_number(old), mark_number(new)),
-    }
-}
-
-// A head with a result, the mark of its value and its ballot.
-fn failing(h: Head, res: u64, other: u64, last: u64) -> Head
-    ensures { result ≡ failing h res other last }
-{
-    Head {
-        kind: h.kind,
-        number: h.number,
-        request: h.request,
-        value: h.value,
-        other: other,
-        accepted: h.accepted,
-        result: res,
-        last: last,
-    }
-}
-
-fn with_failure(h: Head, e: Error) -> Head
-    ensures { result ≡ with_failure h e }
-{
-    match e {
-        Error::ProposalRejected { last } => failing(h, 1, 0, last.0),
-        Error::AcceptRejected { last } => failing(h, 2, 0, last.0),
-        Error::CasFailed(o) => failing(h, 3, mark_number(o), 0),
-        Error::Timeout => failing(h, 4, 0, 0),
-    }
-}
-
-fn with_result(h: Head, res: Res) -> Head
-    ensures { result ≡ with_result h res }
-{
-    match res {
-        Res::Ok => h,
-        Res::Err(e) => with_failure(h, e),
-    }
-}
-
-// A head that carries a value, or none.
-fn carrying(kind: u64, number: u64, accepted: u64, o: OptionValue) -> Head
-    ensures { result ≡ carrying kind number accepted o }
-{
-    Head {
-        kind: kind,
-        number: number,
-        request: 0,
-        value: mark_number(o),
-        other: 0,
-        accepted: accepted,
-        result: 0,
-        last: 0,
-    }
-}
-
-fn response_head(id: u64, response: Response) -> Head
-    ensures { result ≡ response_head id response }
-{
-    match response {
-        Response::Ok(o) => carrying(2, id, 0, o),
-        Response::Err(e) => with_failure(plain(2, id), e),
+    fn from(h: Head) -> Rpc {
+        h.known()
+            .unwrap_or(Rpc::ClientResponse(0, Err(Error::Timeout)))
     }
 }
 
 // The head of a message.
-pub fn head_of(rpc: Rpc) -> Head
-    ensures { result ≡ head_of rpc }
-{
-    match rpc {
-        Rpc::ClientRequest(id, req) => request_head(id, req),
-        Rpc::ClientResponse(id, response) => response_head(id, response),
-        Rpc::SetAcceptAcceptors => plain(3, 0),
-        Rpc::SetProposeAcceptors => plain(4, 0),
-        Rpc::ProposeReq(b) => plain(5, b.0),
-        Rpc::ProposeRes {
-            req_ballot,
-            last_accepted_ballot,
-            last_accepted_value,
-            res,
-        } => {
-            let h = carrying(6, req_ballot.0, last_accepted_ballot.0, last_accepted_value);
-            with_result(h, res)
+impl From<Rpc> for Head {
+    ghost from_gives = { λ rpc h. h ≡ head_of rpc };
+
+    fn from(rpc: Rpc) -> Head {
+        match rpc {
+            Rpc::ClientRequest(id, req) => {
+                let (request, value, other) = match req {
+                    Req::Get => (1, 0, 0),
+                    Req::Del => (2, 0, 0),
+                    Req::Set => (3, 0, 0),
+                    Req::Cas { old, new } => (4, mark_number(old), mark_number(new)),
+                };
+                Head {
+                    kind: 1,
+                    number: id,
+                    request,
+                    value,
+                    other,
+                    ..ZEROS
+                }
+            }
+            Rpc::ClientResponse(id, Ok(o)) => Head {
+                kind: 2,
+                number: id,
+                value: mark_number(o),
+                ..ZEROS
+            },
+            Rpc::ClientResponse(id, Err(e)) => Head {
+                kind: 2,
+                number: id,
+                ..ZEROS
+            }
+            .with_result(Err(e)),
+            Rpc::SetAcceptAcceptors => Head { kind: 3, ..ZEROS },
+            Rpc::SetProposeAcceptors => Head { kind: 4, ..ZEROS },
+            Rpc::ProposeReq(b) => Head {
+                kind: 5,
+                number: b.0,
+                ..ZEROS
+            },
+            Rpc::ProposeRes {
+                req_ballot,
+                last_accepted_ballot,
+                last_accepted_value,
+                res,
+            } => Head {
+                kind: 6,
+                number: req_ballot.0,
+                value: mark_number(last_accepted_value),
+                accepted: last_accepted_ballot.0,
+                ..ZEROS
+            }
+            .with_result(res),
+            Rpc::AcceptReq(b, o) => Head {
+                kind: 7,
+                number: b.0,
+                value: mark_number(o),
+                ..ZEROS
+            },
+            Rpc::AcceptRes(b, res) => Head {
+                kind: 8,
+                number: b.0,
+                ..ZEROS
+            }
+            .with_result(res),
         }
-        Rpc::AcceptReq(b, o) => carrying(7, b.0, 0, o),
-        Rpc::AcceptRes(b, res) => with_result(plain(8, b.0), res),
     }
 }

@@ -5,4 +5,4 @@ mod answer;
 mod head;
 
 pub use answer::{hand_back, refusal_of};
-pub use head::{Head, message_in, take_head};
+pub use head::Head;

@@ -1,19 +1,16 @@
 -- Answers as 01 has them: nothing, one message to one client or proposer, one message to each entry of a list, a row of timeouts, or a refusal. For each: the enum of the code that says it, what it puts into the answer area, and back.
 -- Assumes nothing.
-use Rattle.std.specs.Prelude.{List, [], ◌∷◌, ◌++◌, ℕ, zero, suc, ◌+◌, length, take}
-use Rattle.std.specs.Prelude.{Option, None, Some}
+use Rattle.std.specs.Prelude.{List, [], ◌∷◌, ◌++◌, ℕ, zero, suc, ◌+◌, length, take, Option, None, Some, Result, Ok, Err}
 use Rattle.std.proofs.lemmas.List.Edits.{sets}
 use Rattle.leaf_fields.specs.Fields.{from_le, to_le, part}
 use Rattle.messages.specs.declared.Address.{Address}
-use Rattle.messages.specs.declared.OptionValue.{OptionValue}
+use Rattle.messages.specs.declared.Lent.{Lent}
 use Rattle.messages.specs.declared.Req.{Req}
 use Rattle.messages.specs.declared.Error.{Error}
-use Rattle.messages.specs.declared.Res.{Res}
-use Rattle.messages.specs.declared.Response.{Response}
 use Rattle.messages.specs.declared.Rpc.{Rpc}
 use Rattle.messages.specs.declared.answer.Answer.{Answer}
 use Rattle.messages.specs.declared.answer.Refusal.{Refusal}
-use Rattle.messages.specs.Message.{Key, Value, Request, Failure, Result, Reply, Message, message_of}
+use Rattle.messages.specs.Message.{Key, Value, Request, Failure, Verdict, Reply, Message, message_of, lent}
 
 -- a client, and the request of its that is over time
 pub record Row : Type 0 where
@@ -60,9 +57,9 @@ said (Answer.Timeouts n) a = timeouts (rows a rows_at n)
 said (Answer.Refused r) a = refused r
 
 -- a value that is there, and its bytes
-abbrev pub marked : Option Value → OptionValue
-marked None = OptionValue.None
-marked (Some v) = OptionValue.Some
+abbrev pub marked : Option Value → Option Lent
+marked None = None
+marked (Some v) = Some lent
 
 abbrev pub bytes_of : Option Value → Value
 bytes_of None = []
@@ -76,13 +73,13 @@ failure_rpc (Failure.AcceptRejected b) = Error.AcceptRejected b
 failure_rpc (Failure.CasFailed v) = Error.CasFailed (marked v)
 failure_rpc Failure.Timeout = Error.Timeout
 
-abbrev pub result_rpc : Result → Res
-result_rpc Result.Ok = Res.Ok
-result_rpc (Result.Err e) = Res.Err (failure_rpc e)
+abbrev pub result_rpc : Verdict → Result Unit Error
+result_rpc Verdict.Granted = Ok tt
+result_rpc (Verdict.Denied e) = Err (failure_rpc e)
 
-abbrev pub reply_rpc : Reply → Response
-reply_rpc (Reply.Done v) = Response.Ok (marked v)
-reply_rpc (Reply.Failed e) = Response.Err (failure_rpc e)
+abbrev pub reply_rpc : Reply → Result (Option Lent) Error
+reply_rpc (Reply.Done v) = Ok (marked v)
+reply_rpc (Reply.Failed e) = Err (failure_rpc e)
 
 abbrev pub request_rpc : Request → Req
 request_rpc (Request.Get k) = Req.Get

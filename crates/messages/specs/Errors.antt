@@ -1,10 +1,9 @@
 -- The crate's predicates on errors and its two helpers on messages.
 -- Assumes nothing.
-use Rattle.std.specs.Prelude.{Bool, true, false}
+use Rattle.std.specs.Prelude.{Bool, true, false, ℕ, Option, None, Some}
 use Rattle.messages.specs.declared.Error.{Error}
 use Rattle.messages.specs.declared.Rpc.{Rpc}
-use Rattle.messages.specs.declared.OptionId.{OptionId}
-use Rattle.messages.specs.declared.OptionReq.{OptionReq}
+use Rattle.messages.specs.declared.Req.{Req}
 
 abbrev pub rejected_accept : Error → Bool
 rejected_accept (Error.ProposalRejected b) = false
@@ -31,23 +30,23 @@ failed_cas (Error.CasFailed o) = true
 failed_cas Error.Timeout = false
 
 -- a client request and a client response have an id, and nothing else has
-abbrev pub request_id : Rpc → OptionId
-request_id (Rpc.ClientRequest id r) = OptionId.Some id
-request_id (Rpc.ClientResponse id r) = OptionId.Some id
-request_id Rpc.SetAcceptAcceptors = OptionId.None
-request_id Rpc.SetProposeAcceptors = OptionId.None
-request_id (Rpc.ProposeReq b) = OptionId.None
-request_id (Rpc.ProposeRes b a o r) = OptionId.None
-request_id (Rpc.AcceptReq b o) = OptionId.None
-request_id (Rpc.AcceptRes b r) = OptionId.None
+abbrev pub request_id : Rpc → Option ℕ
+request_id (Rpc.ClientRequest id r) = Some id
+request_id (Rpc.ClientResponse id r) = Some id
+request_id Rpc.SetAcceptAcceptors = None
+request_id Rpc.SetProposeAcceptors = None
+request_id (Rpc.ProposeReq b) = None
+request_id (Rpc.ProposeRes b a o r) = None
+request_id (Rpc.AcceptReq b o) = None
+request_id (Rpc.AcceptRes b r) = None
 
 -- a client request alone has a request
-abbrev pub request_of_rpc : Rpc → OptionReq
-request_of_rpc (Rpc.ClientRequest id r) = OptionReq.Some r
-request_of_rpc (Rpc.ClientResponse id r) = OptionReq.None
-request_of_rpc Rpc.SetAcceptAcceptors = OptionReq.None
-request_of_rpc Rpc.SetProposeAcceptors = OptionReq.None
-request_of_rpc (Rpc.ProposeReq b) = OptionReq.None
-request_of_rpc (Rpc.ProposeRes b a o r) = OptionReq.None
-request_of_rpc (Rpc.AcceptReq b o) = OptionReq.None
-request_of_rpc (Rpc.AcceptRes b r) = OptionReq.None
+abbrev pub request_of_rpc : Rpc → Option Req
+request_of_rpc (Rpc.ClientRequest id r) = Some r
+request_of_rpc (Rpc.ClientResponse id r) = None
+request_of_rpc Rpc.SetAcceptAcceptors = None
+request_of_rpc Rpc.SetProposeAcceptors = None
+request_of_rpc (Rpc.ProposeReq b) = None
+request_of_rpc (Rpc.ProposeRes b a o r) = None
+request_of_rpc (Rpc.AcceptReq b o) = None
+request_of_rpc (Rpc.AcceptRes b r) = None

@@ -4,7 +4,7 @@ use Rattle.std.specs.Prelude.{◌≡◌, refl, true, ◌≤◌, length}
 use Rattle.std.specs.Prelude.{Option, None, Some}
 use Rattle.std.proofs.Common.{arith, leb-true}
 use Rattle.leaf_fields.specs.Laws.{and_true}
-use Rattle.messages.specs.declared.OptionValue.{OptionValue}
+use Rattle.messages.specs.declared.Lent.{Lent}
 use Rattle.messages.specs.Message.{Key, Value, given}
 use Rattle.messages.specs.Limits.{key_most, value_most, key_fits, option_fits, register_fits}
 use Rattle.messages.specs.Answers.{marked, bytes_of}
@@ -23,6 +23,6 @@ pub register_value : (k : Key) (o : Option Value) → register_fits k o ≡ true
 register_value k o h = short_value o (and_true (key_fits k) (option_fits o) h).1
 
 -- the mark of a value that is given by its mark
-pub marked-given : (m : OptionValue) (bytes : Value) → marked (given m bytes) ≡ m
-marked-given OptionValue.None bytes = refl
-marked-given OptionValue.Some bytes = refl
+pub marked-given : (m : Option Lent) (bytes : Value) → marked (given m bytes) ≡ m
+marked-given None bytes = refl
+marked-given (Some x) bytes = refl

@@ -3,7 +3,7 @@
 use Rattle.std.specs.Prelude.{Bool, true, not, ◌&&◌, List, [], ◌∷◌, ℕ, leb, eqb, length}
 use Rattle.std.specs.Prelude.{Option, None, Some}
 use Rattle.messages.specs.declared.Address.{Address}
-use Rattle.messages.specs.Message.{Key, Value, Request, Failure, Result, Reply, Message}
+use Rattle.messages.specs.Message.{Key, Value, Request, Failure, Verdict, Reply, Message}
 
 abbrev pub key_most : ℕ
 key_most = 64
@@ -46,9 +46,9 @@ request_fits (Request.Del k) = key_fits k
 request_fits (Request.Set k v) = key_fits k && value_fits v
 request_fits (Request.Cas k o n) = key_fits k && option_fits o && option_fits n
 
-abbrev pub result_fits : Result → Bool
-result_fits Result.Ok = true
-result_fits (Result.Err e) = failure_fits e
+abbrev pub result_fits : Verdict → Bool
+result_fits Verdict.Granted = true
+result_fits (Verdict.Denied e) = failure_fits e
 
 abbrev pub response_fits : Reply → Bool
 response_fits (Reply.Done o) = option_fits o

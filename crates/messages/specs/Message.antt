@@ -1,16 +1,14 @@
 -- The eight messages of the crate's `Rpc`, with their keys, values and lists; and which of them an enum of the code is, with the bytes that are lent beside it.
 -- Assumes nothing.
-use Rattle.std.specs.Prelude.{List, ℕ, get_or}
-use Rattle.std.specs.Prelude.{Option, None, Some}
+use Rattle.std.specs.Prelude.{List, ℕ, get_or, Option, None, Some, Result, Ok, Err}
 use Rattle.messages.specs.declared.Address.{Address}
 use Rattle.messages.specs.declared.Place.{Place}
 use Rattle.messages.specs.declared.Ballot.{Ballot}
-use Rattle.messages.specs.declared.OptionValue.{OptionValue}
+use Rattle.messages.specs.declared.Lent.{Lent}
 use Rattle.messages.specs.declared.Req.{Req}
 use Rattle.messages.specs.declared.Error.{Error}
-use Rattle.messages.specs.declared.Res.{Res}
-use Rattle.messages.specs.declared.Response.{Response}
 use Rattle.messages.specs.declared.Rpc.{Rpc}
+use Rattle.messages.specs.declared.Incoming.{Incoming}
 
 abbrev pub Key : Type 0
 Key = List ℕ
@@ -33,9 +31,9 @@ pub data Failure : Type 0 where
   Timeout : Failure
 
 -- the crate's `Result<(), Error>`
-pub data Result : Type 0 where
-  Ok : Result
-  Err : Failure → Result
+pub data Verdict : Type 0 where
+  Granted : Verdict
+  Denied : Failure → Verdict
 
 -- the crate's `Result<Option<Value>, Error>`
 pub data Reply : Type 0 where
@@ -49,14 +47,18 @@ pub data Message : Type 0 where
   SetAcceptAcceptors : List ℕ → Message
   SetProposeAcceptors : List ℕ → Message
   ProposeReq : Ballot → Key → Message
-  ProposeRes : Ballot → Ballot → Option Value → Result → Message
+  ProposeRes : Ballot → Ballot → Option Value → Verdict → Message
   AcceptReq : Ballot → Key → Option Value → Message
-  AcceptRes : Ballot → Result → Message
+  AcceptRes : Ballot → Verdict → Message
+
+-- bytes that are lent beside a message
+abbrev pub lent : Lent
+lent = record {}
 
 -- a value that may be missing, and its bytes
-abbrev pub given : OptionValue → Value → Option Value
-given OptionValue.None v = None
-given OptionValue.Some v = Some v
+abbrev pub given : Option Lent → Value → Option Value
+given None v = None
+given (Some x) v = Some v
 
 abbrev pub request_of : Req → Key → Value → Value → Request
 request_of Req.Get k v w = Request.Get k
@@ -70,13 +72,13 @@ failure_of (Error.AcceptRejected b) w = Failure.AcceptRejected b
 failure_of (Error.CasFailed o) w = Failure.CasFailed (given o w)
 failure_of Error.Timeout w = Failure.Timeout
 
-abbrev pub result_of : Res → Value → Result
-result_of Res.Ok w = Result.Ok
-result_of (Res.Err e) w = Result.Err (failure_of e w)
+abbrev pub result_of : Result Unit Error → Value → Verdict
+result_of (Ok x) w = Verdict.Granted
+result_of (Err e) w = Verdict.Denied (failure_of e w)
 
-abbrev pub response_of : Response → Value → Value → Reply
-response_of (Response.Ok o) v w = Reply.Done (given o v)
-response_of (Response.Err e) v w = Reply.Failed (failure_of e w)
+abbrev pub response_of : Result (Option Lent) Error → Value → Value → Reply
+response_of (Ok o) v w = Reply.Done (given o v)
+response_of (Err e) v w = Reply.Failed (failure_of e w)
 
 -- the message that an enum is, with key k, value v, other value w and list l lent beside it
 abbrev pub message_of : Rpc → Key → Value → Value → List ℕ → Message
@@ -88,6 +90,10 @@ message_of (Rpc.ProposeReq b) k v w l = Message.ProposeReq b k
 message_of (Rpc.ProposeRes b a o r) k v w l = Message.ProposeRes b a (given o v) (result_of r w)
 message_of (Rpc.AcceptReq b o) k v w l = Message.AcceptReq b k (given o v)
 message_of (Rpc.AcceptRes b r) k v w l = Message.AcceptRes b (result_of r w)
+
+-- the message that came with what was lent beside it
+abbrev pub arrived : Incoming → Message
+arrived m = message_of m.rpc m.key.now m.value.now m.other.now m.list.now
 
 -- the address at a place of a list, 0 past its end
 abbrev pub listed_at : List ℕ → Place → Address

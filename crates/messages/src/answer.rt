@@ -17,7 +17,7 @@ pub const ROW: usize = 10;
 
 // An answer of 01. The bytes of its message stand in the lent answer area (docs/LAYOUT.md): the value at its front, then the key, the
 // entries that a broadcast goes to, and the rows of timeouts. specs/Answers.antt says which answer an enum and an area are.
-#[derive(Clone, Copy)]
+#[derive(Clone, Copy, PartialEq, Eq)]
 pub enum Answer {
     Nothing,
     Message {
@@ -36,7 +36,7 @@ pub enum Answer {
 }
 
 // 01's refusals by name, in the order of its table.
-#[derive(Clone, Copy)]
+#[derive(Clone, Copy, PartialEq, Eq)]
 pub enum Refusal {
     // a lent area isn't the size for its capacity, or the capacity is outside the limits
     AreaSize,

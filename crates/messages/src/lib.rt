@@ -22,18 +22,18 @@ ghost use Rattle.messages.specs.Errors.{
 
 pub use answer::{Answer, ENTRIES_AT, ENTRY, KEY_AT, ROW, ROWS_AT, Refusal};
 pub use limits::{
-    KEY_MOST, LIST_MOST, PENDING_MOST, REGISTERS_MOST, VALUE_MOST, fits, list_fits, register_fits,
+    KEY_MOST, LIST_MOST, PENDING_MOST, REGISTERS_MOST, VALUE_MOST, list_fits, register_fits,
 };
 
 // A controller's or client's address, 1 to 65,535 as on the drawing; 0 is none.
-#[derive(Clone, Copy)]
+#[derive(Clone, Copy, PartialEq, Eq)]
 pub struct Address(pub u16);
 
 // A place in a list, from 0.
-#[derive(Clone, Copy)]
+#[derive(Clone, Copy, PartialEq, Eq)]
 pub struct Place(pub usize);
 
-#[derive(Clone, Copy)]
+#[derive(Clone, Copy, PartialEq, Eq, PartialOrd, Ord)]
 pub struct Ballot(pub u64);
 
 impl Ballot {
@@ -45,157 +45,99 @@ impl Ballot {
     }
 }
 
-// The crate's Option<Value>; no value differs from the empty value.
-#[derive(Clone, Copy)]
-pub enum OptionValue {
-    None,
-    Some,
-}
+// A value's bytes, lent beside the message: `Option<Lent>` is the crate's Option<Value>. No value differs from the empty value.
+#[derive(Clone, Copy, PartialEq, Eq)]
+pub struct Lent;
 
-#[derive(Clone, Copy)]
+#[derive(Clone, Copy, PartialEq, Eq)]
 pub enum Req {
     Get,
     Del,
     Set,
-    Cas { old: OptionValue, new: OptionValue },
+    Cas {
+        old: Option<Lent>,
+        new: Option<Lent>,
+    },
 }
 
-#[derive(Clone, Copy)]
+#[derive(Clone, Copy, PartialEq, Eq)]
 pub enum Error {
     ProposalRejected { last: Ballot },
     AcceptRejected { last: Ballot },
-    CasFailed(OptionValue),
+    CasFailed(Option<Lent>),
     Timeout,
 }
 
-// The crate's Result<(), Error>.
-#[derive(Clone, Copy)]
-pub enum Res {
-    Ok,
-    Err(Error),
-}
-
-// The crate's Result<Option<Value>, Error>.
-#[derive(Clone, Copy)]
-pub enum Response {
-    Ok(OptionValue),
-    Err(Error),
-}
-
-#[derive(Clone, Copy)]
+#[derive(Clone, Copy, PartialEq, Eq)]
 pub enum Rpc {
     ClientRequest(u64, Req),
-    ClientResponse(u64, Response),
+    ClientResponse(u64, Result<Option<Lent>, Error>),
     SetAcceptAcceptors,
     SetProposeAcceptors,
     ProposeReq(Ballot),
     ProposeRes {
         req_ballot: Ballot,
         last_accepted_ballot: Ballot,
-        last_accepted_value: OptionValue,
-        res: Res,
+        last_accepted_value: Option<Lent>,
+        res: Result<(), Error>,
     },
-    AcceptReq(Ballot, OptionValue),
-    AcceptRes(Ballot, Res),
+    AcceptReq(Ballot, Option<Lent>),
+    AcceptRes(Ballot, Result<(), Error>),
 }
 
-// The crate's Option<u64> and Option<Req>, which the two helpers answer.
+// A message with what is lent beside it: `value` is the message's own value (of a `Cas` the old one), `other` the new value of a `Cas` or the
+// value inside an error. What its kind has no use for is not looked at.
 #[derive(Clone, Copy)]
-pub enum OptionId {
-    None,
-    Some(u64),
-}
-
-#[derive(Clone, Copy)]
-pub enum OptionReq {
-    None,
-    Some(Req),
+pub struct Incoming<'a> {
+    pub rpc: Rpc,
+    pub key: &'a [u8],
+    pub value: &'a [u8],
+    pub other: &'a [u8],
+    pub list: &'a [u16],
 }
 
 impl Error {
     pub fn is_rejected_accept(self) -> bool
         ensures { result ≡ rejected_accept self }
     {
-        match self {
-            Error::ProposalRejected { last: _ } => false,
-            Error::AcceptRejected { last: _ } => true,
-            Error::CasFailed(_) => false,
-            Error::Timeout => false,
-        }
+        matches!(self, Error::AcceptRejected { .. })
     }
 
     pub fn is_rejected_proposal(self) -> bool
         ensures { result ≡ rejected_proposal self }
     {
-        match self {
-            Error::ProposalRejected { last: _ } => true,
-            Error::AcceptRejected { last: _ } => false,
-            Error::CasFailed(_) => false,
-            Error::Timeout => false,
-        }
+        matches!(self, Error::ProposalRejected { .. })
     }
 
     pub fn is_timeout(self) -> bool
         ensures { result ≡ timed_out self }
     {
-        match self {
-            Error::ProposalRejected { last: _ } => false,
-            Error::AcceptRejected { last: _ } => false,
-            Error::CasFailed(_) => false,
-            Error::Timeout => true,
-        }
+        matches!(self, Error::Timeout)
     }
 
     pub fn is_failed_cas(self) -> bool
         ensures { result ≡ failed_cas self }
     {
-        match self {
-            Error::ProposalRejected { last: _ } => false,
-            Error::AcceptRejected { last: _ } => false,
-            Error::CasFailed(_) => true,
-            Error::Timeout => false,
-        }
+        matches!(self, Error::CasFailed(_))
     }
 }
 
 impl Rpc {
-    pub fn client_req_id(self) -> OptionId
+    pub fn client_req_id(self) -> Option<u64>
         ensures { result ≡ request_id self }
     {
         match self {
-            Rpc::ClientRequest(id, _) => OptionId::Some(id),
-            Rpc::ClientResponse(id, _) => OptionId::Some(id),
-            Rpc::SetAcceptAcceptors => OptionId::None,
-            Rpc::SetProposeAcceptors => OptionId::None,
-            Rpc::ProposeReq(_) => OptionId::None,
-            Rpc::ProposeRes {
-                req_ballot: _,
-                last_accepted_ballot: _,
-                last_accepted_value: _,
-                res: _,
-            } => OptionId::None,
-            Rpc::AcceptReq(_, _) => OptionId::None,
-            Rpc::AcceptRes(_, _) => OptionId::None,
+            Rpc::ClientRequest(id, _) | Rpc::ClientResponse(id, _) => Some(id),
+            _ => None,
         }
     }
 
-    pub fn client_req(self) -> OptionReq
+    pub fn client_req(self) -> Option<Req>
         ensures { result ≡ request_of_rpc self }
     {
         match self {
-            Rpc::ClientRequest(_, req) => OptionReq::Some(req),
-            Rpc::ClientResponse(_, _) => OptionReq::None,
-            Rpc::SetAcceptAcceptors => OptionReq::None,
-            Rpc::SetProposeAcceptors => OptionReq::None,
-            Rpc::ProposeReq(_) => OptionReq::None,
-            Rpc::ProposeRes {
-                req_ballot: _,
-                last_accepted_ballot: _,
-                last_accepted_value: _,
-                res: _,
-            } => OptionReq::None,
-            Rpc::AcceptReq(_, _) => OptionReq::None,
-            Rpc::AcceptRes(_, _) => OptionReq::None,
+            Rpc::ClientRequest(_, req) => Some(req),
+            _ => None,
         }
     }
 }
@@ -204,20 +146,15 @@ impl Rpc {
 pub fn address_at(list: &[u16], place: Place) -> Address
     ensures { result ≡ listed_at list.now place }
 {
-    let i = place.0;
-    if i < list.len() {
-        Address(list[i])
-    } else {
-        Address(0)
-    }
+    Address(list.get(place.0).copied().unwrap_or(0))
 }
 
 // The bytes of a value that may be missing: none where it is.
-pub fn present(value: OptionValue, bytes: &[u8]) -> &[u8]
+pub fn present(value: Option<Lent>, bytes: &[u8]) -> &[u8]
     ensures { result.now ≡ bytes_of (given value bytes.now) }
 {
     match value {
-        OptionValue::None => &bytes[0..0],
-        OptionValue::Some => bytes,
+        None => &bytes[0..0],
+        Some(_) => bytes,
     }
 }

@@ -1,6 +1,6 @@
 // The limits of 01, each written once in the code (specs/Limits.antt has them for the definitions), and the test of refusal 4.
 ghost use Rattle.std.specs.Prelude.{◌≡◌, length};
-ghost use Rattle.messages.specs.Message.{given, failure_of, request_of, result_of, response_of, message_of};
+ghost use Rattle.messages.specs.Message.{given, failure_of, request_of, result_of, response_of, arrived};
 ghost use Rattle.messages.specs.Limits.{
   key_fits,
   value_fits,
@@ -16,7 +16,7 @@ ghost use Rattle.messages.specs.Limits.{
   within_limits,
 };
 
-use super::{Address, Error, OptionValue, Req, Res, Response, Rpc};
+use super::{Address, Error, Incoming, Lent, Req, Rpc};
 
 pub const KEY_MOST: usize = 64;
 
@@ -40,12 +40,12 @@ fn value_fits(value: &[u8]) -> bool
     value.len() <= VALUE_MOST
 }
 
-fn option_fits(o: OptionValue, value: &[u8]) -> bool
+fn option_fits(o: Option<Lent>, value: &[u8]) -> bool
     ensures { result ≡ option_fits (given o value.now) }
 {
     match o {
-        OptionValue::None => true,
-        OptionValue::Some => value_fits(value),
+        None => true,
+        Some(_) => value_fits(value),
     }
 }
 
@@ -53,28 +53,26 @@ fn error_fits(e: Error, value: &[u8]) -> bool
     ensures { result ≡ failure_fits (failure_of e value.now) }
 {
     match e {
-        Error::ProposalRejected { last: _ } => true,
-        Error::AcceptRejected { last: _ } => true,
         Error::CasFailed(o) => option_fits(o, value),
-        Error::Timeout => true,
+        _ => true,
     }
 }
 
-fn res_fits(res: Res, other: &[u8]) -> bool
+fn res_fits(res: Result<(), Error>, other: &[u8]) -> bool
     ensures { result ≡ result_fits (result_of res other.now) }
 {
     match res {
-        Res::Ok => true,
-        Res::Err(e) => error_fits(e, other),
+        Ok(_) => true,
+        Err(e) => error_fits(e, other),
     }
 }
 
-fn response_fits(response: Response, value: &[u8], other: &[u8]) -> bool
+fn response_fits(response: Result<Option<Lent>, Error>, value: &[u8], other: &[u8]) -> bool
     ensures { result ≡ response_fits (response_of response value.now other.now) }
 {
     match response {
-        Response::Ok(o) => option_fits(o, value),
-        Response::Err(e) => error_fits(e, other),
+        Ok(o) => option_fits(o, value),
+        Err(failure) => error_fits(failure, other),
     }
 }
 
@@ -82,8 +80,7 @@ fn req_fits(req: Req, key: &[u8], value: &[u8], other: &[u8]) -> bool
     ensures { result ≡ request_fits (request_of req key.now value.now other.now) }
 {
     match req {
-        Req::Get => key_fits(key),
-        Req::Del => key_fits(key),
+        Req::Get | Req::Del => key_fits(key),
         Req::Set => key_fits(key) && value_fits(value),
         Req::Cas { old, new } => key_fits(key)
             && option_fits(old, value)
@@ -92,7 +89,7 @@ fn req_fits(req: Req, key: &[u8], value: &[u8], other: &[u8]) -> bool
 }
 
 // Whether a register's key and value are short enough.
-pub fn register_fits(key: &[u8], o: OptionValue, value: &[u8]) -> bool
+pub fn register_fits(key: &[u8], o: Option<Lent>, value: &[u8]) -> bool
     ensures { result ≡ register_fits key.now (given o value.now) }
 {
     key_fits(key) && option_fits(o, value)
@@ -101,52 +98,42 @@ pub fn register_fits(key: &[u8], o: OptionValue, value: &[u8]) -> bool
 fn none_zero(list: &[u16]) -> bool
     ensures { result ≡ none_zero list.now }
 {
-    let mut i = 0;
-    while i < list.len() {
-        if list[i] == 0 {
-            return false;
-        }
-        i += 1;
-    }
-    true
+    list.iter().all(|a| *a != 0)
 }
 
 // Whether a list is short enough and has no address 0.
+#[tactic(auto, unfolding(crate::specs::Limits::list_fits))]
 pub fn list_fits(list: &[u16]) -> bool
     ensures { result ≡ list_fits list.now }
 {
-    if LIST_MOST < list.len() {
-        return false;
-    }
-    none_zero(list)
+    list.len() <= LIST_MOST && none_zero(list)
 }
 
-fn rpc_fits(rpc: Rpc, key: &[u8], value: &[u8], other: &[u8], list: &[u16]) -> bool
-    ensures { result ≡ message_fits (message_of rpc key.now value.now other.now list.now) }
-{
-    match rpc {
-        Rpc::ClientRequest(_, req) => req_fits(req, key, value, other),
-        Rpc::ClientResponse(_, response) => response_fits(response, value, other),
-        Rpc::SetAcceptAcceptors => list_fits(list),
-        Rpc::SetProposeAcceptors => list_fits(list),
-        Rpc::ProposeReq(_) => key_fits(key),
-        Rpc::ProposeRes {
-            req_ballot: _,
-            last_accepted_ballot: _,
-            last_accepted_value,
-            res,
-        } => option_fits(last_accepted_value, value) && res_fits(res, other),
-        Rpc::AcceptReq(_, o) => register_fits(key, o, value),
-        Rpc::AcceptRes(_, res) => res_fits(res, other),
+impl<'a> Incoming<'a> {
+    // Whether every key, value and list of the message is short enough, and no address in its list is 0.
+    fn bytes_fit(self) -> bool
+        ensures { result ≡ message_fits (arrived self.entry) }
+    {
+        match self.rpc {
+            Rpc::ClientRequest(_, req) => req_fits(req, self.key, self.value, self.other),
+            Rpc::ClientResponse(_, response) => response_fits(response, self.value, self.other),
+            Rpc::SetAcceptAcceptors | Rpc::SetProposeAcceptors => list_fits(self.list),
+            Rpc::ProposeReq(_) => key_fits(self.key),
+            Rpc::ProposeRes {
+                last_accepted_value,
+                res,
+                ..
+            } => option_fits(last_accepted_value, self.value) && res_fits(res, self.other),
+            Rpc::AcceptReq(_, o) => register_fits(self.key, o, self.value),
+            Rpc::AcceptRes(_, res) => res_fits(res, self.other),
+        }
     }
-}
 
-// Whether refusal 4 is not due: every key, value and list of the message is short enough, and no address is 0.
-pub fn fits(from: Address, rpc: Rpc, key: &[u8], value: &[u8], other: &[u8], list: &[u16]) -> bool
-    ensures { result ≡ within_limits from (message_of rpc key.now value.now other.now list.now) }
-{
-    if from.0 == 0 {
-        return false;
+    // Whether refusal 4 is not due to the message and its sender: the same, and the sender's address is not 0.
+    #[tactic(auto, unfolding(crate::specs::Limits::within_limits))]
+    pub fn fits(self, from: Address) -> bool
+        ensures { result ≡ within_limits from (arrived self.entry) }
+    {
+        from.0 != 0 && self.bytes_fit()
     }
-    rpc_fits(rpc, key, value, other, list)
 }

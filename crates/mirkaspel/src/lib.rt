@@ -10,12 +10,11 @@ ghost use Rattle.proposer.specs.Contract.{outcome_on, tick_on, start_on, Done, S
 ghost use Rattle.message_numbers.specs.Heads.{head_in, message_in};
 ghost use Rattle.mirkaspel.specs.Contract.{Numbered, HandedBack};
 
-use message_numbers::{hand_back, message_in, refusal_of, take_head};
-use messages::Address;
+use message_numbers::{Head, hand_back, refusal_of};
+use messages::{Address, Incoming, Rpc};
 
 // `acceptor::receive`.
-#[unsafe(no_mangle)]
-pub extern "C" fn mirkaspel_acceptor_receive(
+pub fn mirkaspel_acceptor_receive(
     table: &mut [u8],
     registers: usize,
     from: u16,
@@ -29,37 +28,27 @@ pub extern "C" fn mirkaspel_acceptor_receive(
 ) -> u8
     ensures { HandedBack (λ (a : Answer). Received table.old registers sent.old (record { 0 = from }) (message_of (message_in (head_in message.now)) key.now value.now other.now list.now) a table.new sent.new) answer.old result answer.new }
 {
-    let rpc = message_in(take_head(message));
-    let a = acceptor::receive(
-        table,
-        registers,
-        Address(from),
-        rpc,
+    let head = Head::from(*message);
+    let message = Incoming {
+        rpc: Rpc::from(head),
         key,
         value,
         other,
         list,
-        sent,
-    );
+    };
+    let a = acceptor::receive(table, registers, Address(from), message, sent);
     hand_back(a, answer)
 }
 
 // `proposer::start`, which is answered with nothing or a refusal: its number, or 0.
-#[unsafe(no_mangle)]
-pub extern "C" fn mirkaspel_proposer_start(
-    area: &mut [u8],
-    places: usize,
-    timeout: u64,
-    list: &[u16],
-) -> u8
+pub fn mirkaspel_proposer_start(area: &mut [u8], places: usize, timeout: u64, list: &[u16]) -> u8
     ensures { Numbered (λ (a : Answer). Started area.old (start_on area.old places timeout list.now) a area.new) result }
 {
     refusal_of(proposer::start(area, places, timeout, list))
 }
 
 // `proposer::receive`.
-#[unsafe(no_mangle)]
-pub extern "C" fn mirkaspel_proposer_receive(
+pub fn mirkaspel_proposer_receive(
     area: &mut [u8],
     places: usize,
     from: u16,
@@ -74,25 +63,20 @@ pub extern "C" fn mirkaspel_proposer_receive(
 ) -> u8
     ensures { HandedBack (λ (a : Answer). Done area.old sent.old (outcome_on area.old places sent.old (record { 0 = from }) at (message_of (message_in (head_in message.now)) key.now value.now other.now list.now)) a area.new sent.new) answer.old result answer.new }
 {
-    let rpc = message_in(take_head(message));
-    let a = proposer::receive(
-        area,
-        places,
-        Address(from),
-        at,
-        rpc,
+    let head = Head::from(*message);
+    let message = Incoming {
+        rpc: Rpc::from(head),
         key,
         value,
         other,
         list,
-        sent,
-    );
+    };
+    let a = proposer::receive(area, places, Address(from), at, message, sent);
     hand_back(a, answer)
 }
 
 // `proposer::tick`.
-#[unsafe(no_mangle)]
-pub extern "C" fn mirkaspel_proposer_tick(
+pub fn mirkaspel_proposer_tick(
     area: &mut [u8],
     places: usize,
     t: u64,

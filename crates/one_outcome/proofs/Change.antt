@@ -2,9 +2,9 @@
 -- Assumes nothing.
 use mathlib.Core.Path.{◌≡◌, sym, ◌∙◌}
 use Rattle.proposer_change.proofs.majority.Reads as majority-reads
-use Rattle.proposer_change.proofs.cas_failed.Reads as cas-failed-reads
-use Rattle.proposer_change.proofs.new_mark.Reads as new-mark-reads
-use Rattle.proposer_change.proofs.new_value.Reads as new-value-reads
+use Rattle.proposer_change.proofs.Change.cas_failed.Reads as cas-failed-reads
+use Rattle.proposer_change.proofs.Change.new_mark.Reads as new-mark-reads
+use Rattle.proposer_change.proofs.Change.new_value.Reads as new-value-reads
 
 pub majority_once : (κs : _) (args : _) (r s : _) (e f : _) → majority-reads.Post κs args r e → majority-reads.Post κs args s f → r ≡ s
 majority_once κs args r s e f p q = p ∙ sym q

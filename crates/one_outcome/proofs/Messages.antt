@@ -10,7 +10,7 @@ use Rattle.messages.proofs.Rpc.client_req_id.Reads as request-id-reads
 use Rattle.messages.proofs.Rpc.client_req.Reads as request-reads
 use Rattle.messages.proofs.answer.Refusal.number.Reads as number-reads
 use Rattle.messages.proofs.address_at.Reads as address-at-reads
-use Rattle.messages.proofs.fits.Reads as fits-reads
+use Rattle.messages.proofs.Incoming.fits.Reads as fits-reads
 use Rattle.messages.proofs.list_fits.Reads as list-fits-reads
 use Rattle.messages.proofs.register_fits.Reads as register-fits-reads
 use Rattle.messages.proofs.present.Reads as present-reads

@@ -9,7 +9,7 @@ use Rattle.proposer.proofs.tick.Reads as tick-reads
 pub start_once : (κs : _) (args : _) (r s : _) (e f : _) → start-reads.Post κs args r e → start-reads.Post κs args s f → (r ≡ s) × (e.0.now ≡ f.0.now)
 start_once κs args r s e f p q = one_start _ _ _ _ _ _ p q
 
-pub receive_once : (κs : _) (args : _) (r s : _) (e f : _) → receive-reads.Post κs args r e → receive-reads.Post κs args s f → (r ≡ s) × (e.0.now ≡ f.0.now) × (e.1.1.1.1.1.1.1.1.1.0.now ≡ f.1.1.1.1.1.1.1.1.1.0.now)
+pub receive_once : (κs : _) (args : _) (r s : _) (e f : _) → receive-reads.Post κs args r e → receive-reads.Post κs args s f → (r ≡ s) × (e.0.now ≡ f.0.now) × (e.1.1.1.1.1.0.now ≡ f.1.1.1.1.1.0.now)
 receive_once κs args r s e f p q = one_outcome _ _ _ _ _ _ _ _ _ p q
 
 pub tick_once : (κs : _) (args : _) (r s : _) (e f : _) → tick-reads.Post κs args r e → tick-reads.Post κs args s f → (r ≡ s) × (e.0.now ≡ f.0.now) × (e.1.1.1.0.now ≡ f.1.1.1.0.now)

@@ -1,20 +1,24 @@
 -- The public operations: refusals 1 and 2 of their lent areas, and the works on an area that is an image.
 -- Assumes nothing.
-use Rattle.std.specs.Prelude.{◌≡◌, Bool, true, false, cond, List, ℕ, length}
+use Rattle.std.specs.Prelude.{◌≡◌, Bool, true, false, not, cond, ◌&&◌, List, [], ◌∷◌, ℕ, eqb, length}
 use Rattle.std.proofs.Math.Path.{refl, sym}
-use Rattle.std.proofs.Common.{ap, ◌∙◌, eq-eqb, ne_eqb}
+use Rattle.std.proofs.Common.{ap, ◌∙◌, eqb-true}
+use Rattle.std.proofs.lemmas.Option.{none-some}
+use Rattle.leaf_fields.specs.Fields.{Bytes}
 use Rattle.std.specs.Prelude.{Option, None, Some}
 use Rattle.messages.specs.declared.Address.{Address}
 use Rattle.messages.specs.declared.answer.Answer.{Answer}
 use Rattle.messages.specs.declared.answer.Refusal.{Refusal}
 use Rattle.messages.specs.Message.{Message}
 use Rattle.messages.specs.Limits.{list_fits, within_limits}
-use Rattle.messages.specs.Refusals.{first_due}
+use Rattle.messages.specs.Refusals.{test, first_due}
 use Rattle.messages.specs.Answers.{Told, nothing, one, each, timeouts, refused}
 use Rattle.proposer_rules.specs.State.{Proposer}
 use Rattle.proposer_rules.specs.Rules.{Outcome, unless, foreign, message_tests, work, receive, tick, start}
-use Rattle.proposer_place.specs.Area.{area_image, read_area, sized, is_image}
+use Rattle.proposer_place.specs.Area.{area_image, read_area, sized, may_be_lent, is_image}
+use Rattle.proposer_place.specs.AreaRead.{image_lent}
 use Rattle.proposer_area.specs.Held.{Held}
+use Rattle.proposer_area.specs.HeldLaws.{image_held}
 use Rattle.proposer.specs.Contract.{area_tests, outcome_on, tick_on, start_on, area_after, Done, Started}
 use Rattle.proposer_works.specs.Works.{answer_bytes, Worked}
 use Rattle.proposer_works.specs.WorksLaws.{refused_work, due_none}
@@ -22,18 +26,35 @@ use Rattle.proposer.specs.Refused.{Keeps, message_keeps, tick_keeps}
 
 -- ---- refusals 1 and 2
 
-module _ (a w : List ℕ) (n : ℕ) (o : Outcome) where
-  refused_done : (t : Option Refusal) (r : Refusal) → t ≡ Some r → Done a w (unless t (read_area a n) o) (Answer.Refused r) a w
-  refused_done t r e = rw e record { answer = refl; area = refl; written = refl }
+module _ (a w : List ℕ) (n : ℕ) (t : Option Refusal) (et : t ≡ first_due (area_tests a n w)) where
+  refused_done : (r : Refusal) (o : Outcome) → t ≡ Some r → Done a w (unless (first_due (area_tests a n w)) (read_area a n) o) (Answer.Refused r) a w
+  refused_done r o e = rw (sym et ∙ e) record { answer = refl; area = refl; written = refl }
 
-  pub wrong_size : (s : Bool) → s ≡ sized a n → s ≡ false → Done a w (unless (first_due (area_tests a n w)) (read_area a n) o) (Answer.Refused Refusal.AreaSize) a w
-  wrong_size s es h = refused_done (first_due (area_tests a n w)) Refusal.AreaSize (rw (sym es ∙ h))
+  pub message_refused : (r : Refusal) (from : Address) (at : ℕ) (m : Message) → t ≡ Some r → Done a w (outcome_on a n w from at m) (Answer.Refused r) a w
+  unfolding outcome_on
+  message_refused r from at m e = refused_done r (receive (read_area a n) from at m) e
 
-  pub wrong_answer : (s : Bool) → s ≡ sized a n → s ≡ true → (length w ≡ answer_bytes n → ⊥) → Done a w (unless (first_due (area_tests a n w)) (read_area a n) o) (Answer.Refused Refusal.AreaSize) a w
-  wrong_answer s es h ne = refused_done (first_due (area_tests a n w)) Refusal.AreaSize (rw (sym es ∙ h, ne_eqb (length w) (answer_bytes n) ne))
+  pub tick_refused : (r : Refusal) (at : ℕ) → t ≡ Some r → Done a w (tick_on a n w at) (Answer.Refused r) a w
+  unfolding tick_on
+  tick_refused r at e = refused_done r (tick (read_area a n) at) e
 
-  pub no_image : (s d : Bool) → s ≡ sized a n → s ≡ true → length w ≡ answer_bytes n → d ≡ is_image a n → d ≡ false → Done a w (unless (first_due (area_tests a n w)) (read_area a n) o) (Answer.Refused Refusal.Damaged) a w
-  no_image s d es h size ed bad = refused_done (first_due (area_tests a n w)) Refusal.Damaged (rw (sym es ∙ h, eq-eqb (length w) (answer_bytes n) size, sym ed ∙ bad))
+  -- neither is due
+  passed_by : (s e d : Bool) → first_due (test (not (s && e)) Refusal.AreaSize ∷ test (not d) Refusal.Damaged ∷ []) ≡ None → (s ≡ true) × (e ≡ true) × (d ≡ true)
+  passed_by true true true h = (refl, refl, refl)
+  passed_by true true false h = absurd (none-some _ (sym h))
+  passed_by true false d h = absurd (none-some _ (sym h))
+  passed_by false e d h = absurd (none-some _ (sym h))
+
+  pub lent : t ≡ None → (sized a n ≡ true) × (length w ≡ answer_bytes n) × (is_image a n ≡ true)
+  lent e =
+      let p = passed_by (sized a n) (eqb (length w) (answer_bytes n)) (is_image a n) (sym et ∙ e) in
+      (p.0, eqb-true (length w) (answer_bytes n) p.1, p.2)
+
+  pub lent_held : Bytes a → t ≡ None → Held a n
+  lent_held bytes e = image_held a n bytes (lent e).0 (lent e).2
+
+  pub lent_may : t ≡ None → may_be_lent (read_area a n) ≡ true
+  lent_may e = image_lent a n (lent e).2
 
 -- ---- a work on an image is the whole contract
 
@@ -47,19 +68,17 @@ area_kept a s o image keeps = by o.told (λ r e. ap area_image (keeps.keeps r e)
     by (timeouts rs) h = refl
     by (refused r) h = h r refl
 
-module _ (a w : List ℕ) (n : ℕ) (s d : Bool) (es : s ≡ sized a n) (sizes : s ≡ true) (size : length w ≡ answer_bytes n) (ed : d ≡ is_image a n) (image : d ≡ true) (held : Held a n) (r : Answer) (a' w' : List ℕ) where
+module _ (a w : List ℕ) (n : ℕ) (t : Option Refusal) (et : t ≡ first_due (area_tests a n w)) (passed : t ≡ None) (held : Held a n) (r : Answer) (a' w' : List ℕ) where
   done : (o : Outcome) → Keeps (read_area a n) o → Worked w o r a' w' → Done a w (unless (first_due (area_tests a n w)) (read_area a n) o) r a' w'
-  done o keeps h =
-      let passed : first_due (area_tests a n w) ≡ None = rw (sym es ∙ sizes, eq-eqb (length w) (answer_bytes n) size, sym ed ∙ image) in
-      rw passed record { answer = h.answer; area = h.area ∙ area_kept a (read_area a n) o held.image keeps; written = h.written }
+  done o keeps h = rw (sym et ∙ passed) record { answer = h.answer; area = h.area ∙ area_kept a (read_area a n) o held.image keeps; written = h.written }
 
   pub received : (from : Address) (at : ℕ) (m : Message) → Worked w (receive (read_area a n) from at m) r a' w' → Done a w (outcome_on a n w from at m) r a' w'
   unfolding outcome_on
   received from at m h = done (receive (read_area a n) from at m) (message_keeps (read_area a n) from at m) h
 
-  pub ticked : (t : ℕ) → Worked w (tick (read_area a n) t) r a' w' → Done a w (tick_on a n w t) r a' w'
+  pub ticked : (at : ℕ) → Worked w (tick (read_area a n) at) r a' w' → Done a w (tick_on a n w at) r a' w'
   unfolding tick_on
-  ticked t h = done (tick (read_area a n) t) (tick_keeps (read_area a n) t) h
+  ticked at h = done (tick (read_area a n) at) (tick_keeps (read_area a n) at) h
 
 -- ---- the start
 

@@ -6,7 +6,7 @@ use Rattle.std.proofs.Common.{arith}
 use Rattle.messages.specs.declared.Address.{Address}
 use Rattle.messages.specs.declared.Ballot.{Ballot}
 use Rattle.messages.specs.declared.answer.Refusal.{Refusal}
-use Rattle.messages.specs.Message.{Value, Failure, Result, Reply, Message}
+use Rattle.messages.specs.Message.{Value, Failure, Verdict, Reply, Message}
 use Rattle.messages.specs.Refusals.{test, first_due}
 use Rattle.messages.specs.Answers.{Row, nothing, one, refused}
 use Rattle.proposer_rules.specs.State.{Phase, Propose, Accept, Pending, Proposer, key_of, with_no, with_yes}
@@ -92,29 +92,29 @@ module _ (s : Proposer) where
       (one_told s (after c p None) p.client failure)
       (nothing_told s noted)
 
-promise_keeps : (s : Proposer) (p : Pending) (from : Address) (b : Ballot) (v : Option Value) (res : Result) → Keeps s (promise_work s p from b v res)
-promise_keeps s p from b v Result.Ok = granted_keeps s (promised_by p from b v)
-promise_keeps s p from b v (Result.Err (Failure.ProposalRejected last)) = rejected_keeps s p from last
-promise_keeps s p from b v (Result.Err (Failure.AcceptRejected last)) = nothing_told s s
-promise_keeps s p from b v (Result.Err (Failure.CasFailed w)) = nothing_told s s
-promise_keeps s p from b v (Result.Err Failure.Timeout) = nothing_told s s
+promise_keeps : (s : Proposer) (p : Pending) (from : Address) (b : Ballot) (v : Option Value) (res : Verdict) → Keeps s (promise_work s p from b v res)
+promise_keeps s p from b v Verdict.Granted = granted_keeps s (promised_by p from b v)
+promise_keeps s p from b v (Verdict.Denied (Failure.ProposalRejected last)) = rejected_keeps s p from last
+promise_keeps s p from b v (Verdict.Denied (Failure.AcceptRejected last)) = nothing_told s s
+promise_keeps s p from b v (Verdict.Denied (Failure.CasFailed w)) = nothing_told s s
+promise_keeps s p from b v (Verdict.Denied Failure.Timeout) = nothing_told s s
 
-first_keeps : (s : Proposer) (p : Pending) (h : Phase) (from : Address) (b : Ballot) (v : Option Value) (res : Result) → Keeps s (in_first s p h from b v res)
+first_keeps : (s : Proposer) (p : Pending) (h : Phase) (from : Address) (b : Ballot) (v : Option Value) (res : Verdict) → Keeps s (in_first s p h from b v res)
 first_keeps s p Accept from b v res = nothing_told s s
 first_keeps s p Propose from b v res = unless_keeps s (first_due (promise_tests s p from res)) (promise_work s p from b v res) (promise_keeps s p from b v res)
 
-on_promise_keeps : (s : Proposer) (o : Option Pending) (from : Address) (b : Ballot) (v : Option Value) (res : Result) → Keeps s (on_promise s o from b v res)
+on_promise_keeps : (s : Proposer) (o : Option Pending) (from : Address) (b : Ballot) (v : Option Value) (res : Verdict) → Keeps s (on_promise s o from b v res)
 on_promise_keeps s None from b v res = nothing_told s s
 on_promise_keeps s (Some p) from b v res = first_keeps s p p.phase from b v res
 
-acceptance_keeps : (s : Proposer) (p : Pending) (from : Address) (res : Result) → Keeps s (acceptance_work s p from res)
-acceptance_keeps s p from Result.Ok = taken_keeps s (with_yes p from p.promised p.value)
-acceptance_keeps s p from (Result.Err (Failure.ProposalRejected last)) = nothing_told s s
-acceptance_keeps s p from (Result.Err (Failure.AcceptRejected last)) = turned_keeps s p from last
-acceptance_keeps s p from (Result.Err (Failure.CasFailed w)) = nothing_told s s
-acceptance_keeps s p from (Result.Err Failure.Timeout) = nothing_told s s
+acceptance_keeps : (s : Proposer) (p : Pending) (from : Address) (res : Verdict) → Keeps s (acceptance_work s p from res)
+acceptance_keeps s p from Verdict.Granted = taken_keeps s (with_yes p from p.promised p.value)
+acceptance_keeps s p from (Verdict.Denied (Failure.ProposalRejected last)) = nothing_told s s
+acceptance_keeps s p from (Verdict.Denied (Failure.AcceptRejected last)) = turned_keeps s p from last
+acceptance_keeps s p from (Verdict.Denied (Failure.CasFailed w)) = nothing_told s s
+acceptance_keeps s p from (Verdict.Denied Failure.Timeout) = nothing_told s s
 
-on_acceptance_keeps : (s : Proposer) (o : Option Pending) (from : Address) (res : Result) → Keeps s (on_acceptance s o from res)
+on_acceptance_keeps : (s : Proposer) (o : Option Pending) (from : Address) (res : Verdict) → Keeps s (on_acceptance s o from res)
 on_acceptance_keeps s None from res = nothing_told s s
 on_acceptance_keeps s (Some p) from res = unless_keeps s (first_due (acceptance_tests p from res)) (acceptance_work s p from res) (acceptance_keeps s p from res)
 

@@ -12,7 +12,7 @@ use Rattle.messages.specs.declared.Ballot.{Ballot}
 use Rattle.messages.specs.declared.answer.Answer.{Answer}
 use Rattle.messages.specs.declared.answer.Refusal.{Refusal}
 use Rattle.messages.specs.Ballots.{above}
-use Rattle.messages.specs.Message.{Value, Request, Failure, Result, Reply, Message}
+use Rattle.messages.specs.Message.{Value, Request, Failure, Verdict, Reply, Message}
 use Rattle.messages.specs.Limits.{key_most, value_most, option_fits, request_fits, result_fits, within_limits}
 use Rattle.messages.specs.Refusals.{test, first_due}
 use Rattle.messages.specs.Answers.{Row, nothing, timeouts, rows_at, row_bytes, said, bytes_of, reply_value, answer_of, rows_bytes, written_in}
@@ -104,16 +104,16 @@ module _ (w : List ℕ) (n : ℕ) (size : length w ≡ answer_bytes n) (s : Prop
   -- ---- answers
 
   module _ (from : Address) (from-fits : from.0 < 2 ^ 16) where
-    promise_work_speaks : (p : Pending) (lawful : Lawful p) (fit : Fit s.counter p) (b : Ballot) (v : Option Value) (res : Result) → b.0 < 2 ^ 64 → Short value_most (bytes_of v) → first_due (promise_tests s p from res) ≡ None → Speaks w (promise_work s p from b v res)
-    promise_work_speaks p lawful fit b v Result.Ok high short due =
+    promise_work_speaks : (p : Pending) (lawful : Lawful p) (fit : Fit s.counter p) (b : Ballot) (v : Option Value) (res : Verdict) → b.0 < 2 ^ 64 → Short value_most (bytes_of v) → first_due (promise_tests s p from res) ≡ None → Speaks w (promise_work s p from b v res)
+    promise_work_speaks p lawful fit b v Verdict.Granted high short due =
         let may = (sender_may s n ok from from-fits p _ due).0 in
         granted_speaks (promised_by p from b v) (promised_lawful p from b v lawful from-fits (room s.counter s.counter p from (omega arith) fit may).0 high short)
-    promise_work_speaks p lawful fit b v (Result.Err (Failure.ProposalRejected last)) high short due = rejected_speaks p lawful from last
-    promise_work_speaks p lawful fit b v (Result.Err (Failure.AcceptRejected last)) high short due = nothing_speaks w s
-    promise_work_speaks p lawful fit b v (Result.Err (Failure.CasFailed u)) high short due = nothing_speaks w s
-    promise_work_speaks p lawful fit b v (Result.Err Failure.Timeout) high short due = nothing_speaks w s
+    promise_work_speaks p lawful fit b v (Verdict.Denied (Failure.ProposalRejected last)) high short due = rejected_speaks p lawful from last
+    promise_work_speaks p lawful fit b v (Verdict.Denied (Failure.AcceptRejected last)) high short due = nothing_speaks w s
+    promise_work_speaks p lawful fit b v (Verdict.Denied (Failure.CasFailed u)) high short due = nothing_speaks w s
+    promise_work_speaks p lawful fit b v (Verdict.Denied Failure.Timeout) high short due = nothing_speaks w s
 
-    promise_speaks : (ballot : Ballot) (o : Option Pending) → pending_at ballot s.places ≡ o → (b : Ballot) (v : Option Value) (res : Result) → b.0 < 2 ^ 64 → Short value_most (bytes_of v) → Speaks w (on_promise s o from b v res)
+    promise_speaks : (ballot : Ballot) (o : Option Pending) → pending_at ballot s.places ≡ o → (b : Ballot) (v : Option Value) (res : Verdict) → b.0 < 2 ^ 64 → Short value_most (bytes_of v) → Speaks w (on_promise s o from b v res)
     promise_speaks ballot None e b v res high short = nothing_speaks w s
     promise_speaks ballot (Some p) e b v res high short = by p.phase (pending_holds s n ok from from-fits ballot p e)
       where
@@ -121,17 +121,17 @@ module _ (w : List ℕ) (n : ℕ) (size : length w ≡ answer_bytes n) (s : Prop
         by Accept holds = nothing_speaks w s
         by Propose holds = unless_speaks w (first_due (promise_tests s p from res)) s (promise_work s p from b v res) (λ due. promise_work_speaks p holds.0 holds.1 b v res high short due)
 
-    acceptance_work_speaks : (p : Pending) (lawful : Lawful p) (fit : Fit s.counter p) (res : Result) → first_due (acceptance_tests p from res) ≡ None → Speaks w (acceptance_work s p from res)
-    acceptance_work_speaks p lawful fit Result.Ok due =
+    acceptance_work_speaks : (p : Pending) (lawful : Lawful p) (fit : Fit s.counter p) (res : Verdict) → first_due (acceptance_tests p from res) ≡ None → Speaks w (acceptance_work s p from res)
+    acceptance_work_speaks p lawful fit Verdict.Granted due =
         let may = (sender_may s n ok from from-fits p None (none_due (first_phase p.phase) Refusal.FirstPhase _ due).1).0 in
         taken_speaks (with_yes p from p.promised p.value)
         (lawful_yes p lawful from p.promised p.value from-fits (room s.counter s.counter p from (omega arith) fit may).0 lawful.promised_fits lawful.promised)
-    acceptance_work_speaks p lawful fit (Result.Err (Failure.ProposalRejected last)) due = nothing_speaks w s
-    acceptance_work_speaks p lawful fit (Result.Err (Failure.AcceptRejected last)) due = turned_speaks p lawful from last
-    acceptance_work_speaks p lawful fit (Result.Err (Failure.CasFailed u)) due = nothing_speaks w s
-    acceptance_work_speaks p lawful fit (Result.Err Failure.Timeout) due = nothing_speaks w s
+    acceptance_work_speaks p lawful fit (Verdict.Denied (Failure.ProposalRejected last)) due = nothing_speaks w s
+    acceptance_work_speaks p lawful fit (Verdict.Denied (Failure.AcceptRejected last)) due = turned_speaks p lawful from last
+    acceptance_work_speaks p lawful fit (Verdict.Denied (Failure.CasFailed u)) due = nothing_speaks w s
+    acceptance_work_speaks p lawful fit (Verdict.Denied Failure.Timeout) due = nothing_speaks w s
 
-    acceptance_speaks : (ballot : Ballot) (o : Option Pending) → pending_at ballot s.places ≡ o → (res : Result) → Speaks w (on_acceptance s o from res)
+    acceptance_speaks : (ballot : Ballot) (o : Option Pending) → pending_at ballot s.places ≡ o → (res : Verdict) → Speaks w (on_acceptance s o from res)
     acceptance_speaks ballot None e res = nothing_speaks w s
     acceptance_speaks ballot (Some p) e res =
         let holds = pending_holds s n ok from from-fits ballot p e in

@@ -16,7 +16,7 @@ use Rattle.messages.specs.declared.Ballot.{Ballot}
 use Rattle.messages.specs.declared.answer.Answer.{Answer}
 use Rattle.messages.specs.declared.answer.Refusal.{Refusal}
 use Rattle.messages.specs.Ballots.{above}
-use Rattle.messages.specs.Message.{Value, Request, Failure, Result, Reply, Message}
+use Rattle.messages.specs.Message.{Value, Request, Failure, Verdict, Reply, Message}
 use Rattle.messages.specs.Limits.{value_most, list_most, option_fits, request_fits, list_fits, none_zero, result_fits, message_fits, within_limits}
 use Rattle.messages.specs.Refusals.{test, pick_first, first_due}
 use Rattle.messages.specs.Answers.{Told, nothing, one, each, timeouts, refused, bytes_of}
@@ -41,9 +41,9 @@ TypedFailure (Failure.AcceptRejected last) = last.0 < 2 ^ 64
 TypedFailure (Failure.CasFailed v) = Unit
 TypedFailure Failure.Timeout = Unit
 
-abbrev pub TypedResult : Result → Type 0
-TypedResult Result.Ok = Unit
-TypedResult (Result.Err e) = TypedFailure e
+abbrev pub TypedResult : Verdict → Type 0
+TypedResult Verdict.Granted = Unit
+TypedResult (Verdict.Denied e) = TypedFailure e
 
 abbrev pub TypedMessage : Message → Type 0
 TypedMessage (Message.ClientRequest id r) = (id < 2 ^ 64) × (Bytes (key_of r)) × (Bytes (bytes_of (first_value r))) × (Bytes (bytes_of (second_value r)))
@@ -445,21 +445,21 @@ module _ (s : Proposer) (n : ℕ) (ok : Lendable s n) (from : Address) (from-fit
       let neither = or_false (listed from.0 p.acks_from) (listed from.0 p.nacks_from) first.0 in
       (record { no_yes = neither.0; no_no = neither.1; there = not-false _ second.0 }, second.1)
 
-  promise_work_next : (p : Pending) (lawful : Lawful p) (fit : Fit s.counter p) (b : Ballot) (v : Option Value) (res : Result) → b.0 < 2 ^ 64 → Short value_most (bytes_of v) → option_fits v ≡ true → TypedResult res → first_due (promise_tests s p from res) ≡ None → Next s (promise_work s p from b v res).state n
-  promise_work_next p lawful fit b v Result.Ok high short fits typed due = promised_next s n ok p lawful fit from from-fits (sender_may p _ due).0 b v high short fits
-  promise_work_next p lawful fit b v (Result.Err (Failure.ProposalRejected last)) high short fits typed due =
+  promise_work_next : (p : Pending) (lawful : Lawful p) (fit : Fit s.counter p) (b : Ballot) (v : Option Value) (res : Verdict) → b.0 < 2 ^ 64 → Short value_most (bytes_of v) → option_fits v ≡ true → TypedResult res → first_due (promise_tests s p from res) ≡ None → Next s (promise_work s p from b v res).state n
+  promise_work_next p lawful fit b v Verdict.Granted high short fits typed due = promised_next s n ok p lawful fit from from-fits (sender_may p _ due).0 b v high short fits
+  promise_work_next p lawful fit b v (Verdict.Denied (Failure.ProposalRejected last)) high short fits typed due =
       let sender = sender_may p _ due in
       rejected_next s n ok p lawful fit from from-fits sender.0 last typed (none_due _ Refusal.CounterUsedUp None sender.1).0
-  promise_work_next p lawful fit b v (Result.Err (Failure.AcceptRejected last)) high short fits typed due = stays s n ok
-  promise_work_next p lawful fit b v (Result.Err (Failure.CasFailed w)) high short fits typed due = stays s n ok
-  promise_work_next p lawful fit b v (Result.Err Failure.Timeout) high short fits typed due = stays s n ok
+  promise_work_next p lawful fit b v (Verdict.Denied (Failure.AcceptRejected last)) high short fits typed due = stays s n ok
+  promise_work_next p lawful fit b v (Verdict.Denied (Failure.CasFailed w)) high short fits typed due = stays s n ok
+  promise_work_next p lawful fit b v (Verdict.Denied Failure.Timeout) high short fits typed due = stays s n ok
 
-  acceptance_work_next : (p : Pending) (lawful : Lawful p) (fit : Fit s.counter p) (res : Result) → TypedResult res → MayAnswer p from → Next s (acceptance_work s p from res).state n
-  acceptance_work_next p lawful fit Result.Ok typed may = taken_next s n ok p lawful fit from from-fits may
-  acceptance_work_next p lawful fit (Result.Err (Failure.ProposalRejected last)) typed may = stays s n ok
-  acceptance_work_next p lawful fit (Result.Err (Failure.AcceptRejected last)) typed may = turned_next s n ok p lawful fit from from-fits may last typed
-  acceptance_work_next p lawful fit (Result.Err (Failure.CasFailed w)) typed may = stays s n ok
-  acceptance_work_next p lawful fit (Result.Err Failure.Timeout) typed may = stays s n ok
+  acceptance_work_next : (p : Pending) (lawful : Lawful p) (fit : Fit s.counter p) (res : Verdict) → TypedResult res → MayAnswer p from → Next s (acceptance_work s p from res).state n
+  acceptance_work_next p lawful fit Verdict.Granted typed may = taken_next s n ok p lawful fit from from-fits may
+  acceptance_work_next p lawful fit (Verdict.Denied (Failure.ProposalRejected last)) typed may = stays s n ok
+  acceptance_work_next p lawful fit (Verdict.Denied (Failure.AcceptRejected last)) typed may = turned_next s n ok p lawful fit from from-fits may last typed
+  acceptance_work_next p lawful fit (Verdict.Denied (Failure.CasFailed w)) typed may = stays s n ok
+  acceptance_work_next p lawful fit (Verdict.Denied Failure.Timeout) typed may = stays s n ok
 
   -- the pending request that an answer is for
   pub pending_holds : (ballot : Ballot) (p : Pending) → pending_at ballot s.places ≡ Some p → Lawful p × Fit s.counter p
@@ -467,7 +467,7 @@ module _ (s : Proposer) (n : ℕ) (ok : Lendable s n) (from : Address) (from-fit
       let found = found_holds s.counter ballot s.places p ok.lawful.each (parts_of s ok.lent).places e in
       (found.0, fit_of s.counter p found.1)
 
-  promise_next : (ballot : Ballot) (o : Option Pending) → pending_at ballot s.places ≡ o → (b : Ballot) (v : Option Value) (res : Result) → b.0 < 2 ^ 64 → Short value_most (bytes_of v) → option_fits v ≡ true → TypedResult res → Next s (on_promise s o from b v res).state n
+  promise_next : (ballot : Ballot) (o : Option Pending) → pending_at ballot s.places ≡ o → (b : Ballot) (v : Option Value) (res : Verdict) → b.0 < 2 ^ 64 → Short value_most (bytes_of v) → option_fits v ≡ true → TypedResult res → Next s (on_promise s o from b v res).state n
   promise_next ballot None e b v res high short fits typed = stays s n ok
   promise_next ballot (Some p) e b v res high short fits typed = by p.phase
     where
@@ -478,7 +478,7 @@ module _ (s : Proposer) (n : ℕ) (ok : Lendable s n) (from : Address) (from-fit
           unless_next s n (first_due (promise_tests s p from res)) (promise_work s p from b v res) ok
           (λ due. promise_work_next p holds.0 holds.1 b v res high short fits typed due)
 
-  acceptance_next : (ballot : Ballot) (o : Option Pending) → pending_at ballot s.places ≡ o → (res : Result) → TypedResult res → Next s (on_acceptance s o from res).state n
+  acceptance_next : (ballot : Ballot) (o : Option Pending) → pending_at ballot s.places ≡ o → (res : Verdict) → TypedResult res → Next s (on_acceptance s o from res).state n
   acceptance_next ballot None e res typed = stays s n ok
   acceptance_next ballot (Some p) e res typed =
       let holds = pending_holds ballot p e in

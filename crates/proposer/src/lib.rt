@@ -4,12 +4,13 @@
 #![tactic(auto)]
 
 ghost use Rattle.std.specs.Prelude.{◌≡◌, true, cond, List, ℕ, length};
-ghost use Rattle.messages.specs.Message.{message_of};
-ghost use Rattle.messages.specs.Limits.{within_limits};
+ghost use Rattle.messages.specs.Message.{arrived, message_of};
+ghost use Rattle.messages.specs.Refusals.{first_due};
 ghost use Rattle.proposer_rules.specs.Rules.{foreign};
 ghost use Rattle.proposer_rules.specs.Rules as Rules;
 ghost use Rattle.proposer_place.specs.Area.{read_area, may_be_lent};
 ghost use Rattle.proposer.specs.Contract.{
+  area_tests,
   outcome_on,
   tick_on,
   start_on,
@@ -20,7 +21,7 @@ ghost use Rattle.proposer_area.specs.Held.{Held};
 ghost use Rattle.proposer_works.specs.Works.{answer_bytes, Worked};
 
 pub use messages::{ENTRIES_AT, KEY_AT, ROW, ROWS_AT};
-use messages::{Address, Answer, Refusal, Rpc};
+use messages::{Address, Answer, Incoming, Refusal, Rpc};
 
 // The start: counter 0, nothing pending, and one given list as both lists. Refusals are 1 and 4.
 pub fn start(area: &mut [u8], places: usize, timeout: u64, list: &[u16]) -> Answer
@@ -36,35 +37,35 @@ pub fn start(area: &mut [u8], places: usize, timeout: u64, list: &[u16]) -> Answ
     Answer::Nothing
 }
 
-// A message from an address at a time, on a lent area of that many places. The message's bytes are lent beside it, and those of an answer
-// are put into the lent answer area. Any input is taken; refusals are 1 to 11.
+// Refusal 1 or 2, where it is due to what is lent: an area of that many places, and an answer area.
+fn refused(area: &[u8], places: usize, answer: &[u8]) -> Option<Refusal>
+    ensures { result ≡ first_due (area_tests area.now places answer.now) }
+{
+    if !proposer_area::is_sized(area, places) || answer.len() != ROWS_AT + ROW * places {
+        return Some(Refusal::AreaSize);
+    }
+    if !proposer_image::is_image(area, places) {
+        return Some(Refusal::Damaged);
+    }
+    None
+}
+
+// A message from an address at a time, on a lent area of that many places. The bytes of an answer are put into the lent answer area. Any
+// input is taken; refusals are 1 to 11.
 pub fn receive(
     area: &mut [u8],
     places: usize,
     from: Address,
     at: u64,
-    rpc: Rpc,
-    key: &[u8],
-    value: &[u8],
-    other: &[u8],
-    list: &[u16],
+    message: Incoming,
     answer: &mut [u8],
 ) -> Answer
-    ensures { Done area.old answer.old (outcome_on area.old places answer.old from at (message_of rpc key.now value.now other.now list.now)) result area.new answer.new }
+    ensures { Done area.old answer.old (outcome_on area.old places answer.old from at (arrived message.entry)) result area.new answer.new }
 {
-    if !proposer_area::is_sized(area, places) {
-        return Answer::Refused(Refusal::AreaSize);
+    if let Some(refusal) = refused(area, places, answer) {
+        return Answer::Refused(refusal);
     }
-    if answer.len() != ROWS_AT + ROW * places {
-        return Answer::Refused(Refusal::AreaSize);
-    }
-    if !proposer_image::is_image(area, places) {
-        return Answer::Refused(Refusal::Damaged);
-    }
-    let fits = messages::fits(from, rpc, key, value, other, list);
-    work(
-        area, places, from, at, rpc, fits, key, value, other, list, answer,
-    )
+    work(area, places, from, at, message, answer)
 }
 
 // The refusal of a message that is over the limits: a wrong kind ranks before them.
@@ -72,47 +73,37 @@ fn over_limit(rpc: Rpc) -> Refusal
     ensures { (k v u l : List ℕ) → result ≡ cond (foreign (message_of rpc k v u l)) Refusal.WrongKind Refusal.OverLimit }
 {
     match rpc {
-        Rpc::ClientRequest(_, _) => Refusal::OverLimit,
-        Rpc::ClientResponse(_, _) => Refusal::WrongKind,
-        Rpc::SetAcceptAcceptors => Refusal::OverLimit,
-        Rpc::SetProposeAcceptors => Refusal::OverLimit,
-        Rpc::ProposeReq(_) => Refusal::WrongKind,
-        Rpc::ProposeRes {
-            req_ballot: _,
-            last_accepted_ballot: _,
-            last_accepted_value: _,
-            res: _,
-        } => Refusal::OverLimit,
-        Rpc::AcceptReq(_, _) => Refusal::WrongKind,
-        Rpc::AcceptRes(_, _) => Refusal::OverLimit,
+        Rpc::ClientResponse(..) | Rpc::ProposeReq(_) | Rpc::AcceptReq(..) => Refusal::WrongKind,
+        _ => Refusal::OverLimit,
     }
 }
 
-// The same on an area that is an image. `fits`: whether the message is within the limits.
+// The same on an area that is an image.
 fn work(
     area: &mut [u8],
     places: usize,
     from: Address,
     at: u64,
-    rpc: Rpc,
-    fits: bool,
-    key: &[u8],
-    value: &[u8],
-    other: &[u8],
-    list: &[u16],
+    message: Incoming,
     answer: &mut [u8],
 ) -> Answer
-    requires { (Held area.old places) × (length answer.old ≡ answer_bytes places) × (may_be_lent (read_area area.old places) ≡ true) × (fits ≡ within_limits from (message_of rpc key.now value.now other.now list.now)) }
-    ensures { Worked answer.old (Rules.receive (read_area area.old places) from at (message_of rpc key.now value.now other.now list.now)) result area.new answer.new }
+    requires { (Held area.old places) × (length answer.old ≡ answer_bytes places) × (may_be_lent (read_area area.old places) ≡ true) }
+    ensures { Worked answer.old (Rules.receive (read_area area.old places) from at (arrived message.entry)) result area.new answer.new }
 {
-    if !fits {
-        return Answer::Refused(over_limit(rpc));
+    if !message.fits(from) {
+        return Answer::Refused(over_limit(message.rpc));
     }
+    let Incoming {
+        rpc,
+        key,
+        value,
+        other,
+        list,
+    } = message;
     match rpc {
         Rpc::ClientRequest(id, req) => {
             proposer_request::request(area, places, from, at, id, req, key, value, other, answer)
         }
-        Rpc::ClientResponse(_, _) => Answer::Refused(Refusal::WrongKind),
         Rpc::SetAcceptAcceptors => {
             proposer_lists::set_accept(area, places, list);
             Answer::Nothing
@@ -121,7 +112,6 @@ fn work(
             proposer_lists::set_propose(area, places, list);
             Answer::Nothing
         }
-        Rpc::ProposeReq(_) => Answer::Refused(Refusal::WrongKind),
         Rpc::ProposeRes {
             req_ballot,
             last_accepted_ballot,
@@ -138,9 +128,11 @@ fn work(
             res,
             answer,
         ),
-        Rpc::AcceptReq(_, _) => Answer::Refused(Refusal::WrongKind),
         Rpc::AcceptRes(ballot, res) => {
             proposer_acceptance::acceptance(area, places, from, ballot, res, answer)
+        }
+        Rpc::ClientResponse(..) | Rpc::ProposeReq(_) | Rpc::AcceptReq(..) => {
+            Answer::Refused(Refusal::WrongKind)
         }
     }
 }
@@ -149,14 +141,8 @@ fn work(
 pub fn tick(area: &mut [u8], places: usize, t: u64, answer: &mut [u8]) -> Answer
     ensures { Done area.old answer.old (tick_on area.old places answer.old t) result area.new answer.new }
 {
-    if !proposer_area::is_sized(area, places) {
-        return Answer::Refused(Refusal::AreaSize);
-    }
-    if answer.len() != ROWS_AT + ROW * places {
-        return Answer::Refused(Refusal::AreaSize);
-    }
-    if !proposer_image::is_image(area, places) {
-        return Answer::Refused(Refusal::Damaged);
+    if let Some(refusal) = refused(area, places, answer) {
+        return Answer::Refused(refusal);
     }
     proposer_clock::tick(area, places, t, answer)
 }

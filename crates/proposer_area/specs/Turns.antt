@@ -99,7 +99,7 @@ abbrev pub passes : (Pending → Bool) → Option Pending → Bool
 passes f None = false
 passes f (Some p) = f p
 
-used_passes : (f : Pending → Bool) (b : List ℕ) → (not (eqb (byte b used_at) 0) && f (read_pending b)) ≡ passes f (read_place b)
+pub used_passes : (f : Pending → Bool) (b : List ℕ) → (not (eqb (byte b used_at) 0) && f (read_pending b)) ≡ passes f (read_place b)
 unfolding read_place
 used_passes f b = go (eqb (byte b used_at) 0)
   where

@@ -11,11 +11,11 @@ ghost use Rattle.leaf_fields.specs.Fields.{to_le};
 ghost use Rattle.proposer_place.specs.Area.{counter_at, header_bytes, sized};
 ghost use Rattle.proposer_area.specs.Places.{header_in};
 
-pub use entries::listed;
+pub use entries::{address, list, listed};
 use messages::PENDING_MOST;
 pub use places::{
     again, drop_place, fill_place, has_answered, is_waited_for, note_no, note_promise, note_yes,
-    second_phase, take_place,
+    places_in, second_phase, take_place,
 };
 use proposer_place::PLACE;
 pub use search::{find, held, lowest_free};
@@ -42,10 +42,10 @@ pub fn take_header(area: &[u8]) -> Header
     ensures { (result ≡ header_in area.now) × (result.accept < 256) × (result.propose < 256) }
 {
     Header {
-        counter: leaf_fields::get64(area, 0),
-        timeout: leaf_fields::get64(area, 8),
-        accept: area[16] as usize,
-        propose: area[17] as usize,
+        counter: leaf_fields::read(area, 0),
+        timeout: leaf_fields::read(area, 8),
+        accept: usize::from(area[16]),
+        propose: usize::from(area[17]),
     }
 }
 
@@ -54,18 +54,13 @@ pub fn put_counter(area: &mut [u8], counter: u64)
     requires { header_bytes ≤ length area.old }
     ensures { area.new ≡ sets area.old counter_at (to_le 8 counter) }
 {
-    leaf_fields::put(area, 0, 8, counter);
+    leaf_fields::write(area, 0, counter);
 }
 
 // Whether the area has the size for its places, 1 to 32.
+#[tactic(auto, using(std::proofs::lemmas::Bool::Decides::nat_tests), unfolding(proposer_place::specs::Area::sized))]
 pub fn is_sized(area: &[u8], places: usize) -> bool
     ensures { result ≡ sized area.now places }
 {
-    if places < 1 {
-        return false;
-    }
-    if PENDING_MOST < places {
-        return false;
-    }
-    area.len() == HEADER + PLACE * places
+    (1..=PENDING_MOST).contains(&places) && area.len() == HEADER + PLACE * places
 }

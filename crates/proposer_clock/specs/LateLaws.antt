@@ -41,7 +41,7 @@ unfolding insert
 insert_behind p q l h = rw h
 
 -- one that is not above another: what is not above the first is not above the other
-lower_decides : (a b c : Ballot) → above b c ≡ false → (not (above a b) && not (above a c)) ≡ not (above a b)
+pub lower_decides : (a b c : Ballot) → above b c ≡ false → (not (above a b) && not (above a c)) ≡ not (above a b)
 lower_decides a b c h = go (above a b) (above a c) refl refl
   where
     go : (x y : Bool) → above a b ≡ x → above a c ≡ y → (not x && not y) ≡ not x
@@ -49,7 +49,7 @@ lower_decides a b c h = go (above a b) (above a c) refl refl
     go false false ex ey = refl
     go false true ex ey = absurd (omega (arith, ltb-false c.0 b.0 h, ltb-false b.0 a.0 ex, ltb-true c.0 a.0 ey))
 
-higher_drops : (a b c : Ballot) → above b c ≡ true → (not (above a b) && not (above a c)) ≡ not (above a c)
+pub higher_drops : (a b c : Ballot) → above b c ≡ true → (not (above a b) && not (above a c)) ≡ not (above a c)
 higher_drops a b c h = go (above a b) (above a c) refl refl
   where
     go : (x y : Bool) → above a b ≡ x → above a c ≡ y → (not x && not y) ≡ not y

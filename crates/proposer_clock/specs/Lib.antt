@@ -1,3 +1,5 @@
 pub mod Late
 pub mod LateLaws
+pub mod Lesser
+pub mod LateSearch
 pub mod TickLaws

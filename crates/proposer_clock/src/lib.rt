@@ -21,8 +21,8 @@ fn put_row(answer: &mut [u8], k: usize, client: Address, id: u64)
     ensures { answer.new ≡ sets answer.old (rows_at + row_bytes * k) (rows_bytes (record { client = client; id = id } ∷ [])) }
 {
     let at = ROWS_AT + ROW * k;
-    leaf_fields::put(answer, at, 2, client.0 as u64);
-    leaf_fields::put(answer, at + 2, 8, id);
+    leaf_fields::write(answer, at, client.0);
+    leaf_fields::write(answer, at + 2, id);
 }
 
 // Drops every request over time, the one with the lowest ballot first; how many they are.
@@ -31,18 +31,15 @@ fn expire(area: &mut [u8], places: usize, t: u64, answer: &mut [u8]) -> usize
     ensures { (result ≡ length (late_ones (read_area area.old places) t (read_area area.old places).places)) × (area.new ≡ area_image (moved (read_area area.old places) (read_area area.old places).counter (in_time (read_area area.old places) t (read_area area.old places).places))) × (answer.new ≡ sets answer.old rows_at (rows_bytes (rows_of (late_ones (read_area area.old places) t (read_area area.old places).places)))) }
 {
     let h = proposer_area::take_header(area);
-    let mut k = 0;
-    while k < places {
-        let i = lowest_late(area, places, t, h.timeout);
-        if i == places {
+    for k in 0..places {
+        let Some(i) = lowest_late(area, places, t, h.timeout) else {
             return k;
-        }
+        };
         let f = proposer_area::take_place(area, i);
         put_row(answer, k, f.client, f.id);
         proposer_area::drop_place(area, i);
-        k += 1;
     }
-    k
+    places
 }
 
 // A tick on an area that is an image.
@@ -53,9 +50,8 @@ pub fn tick(area: &mut [u8], places: usize, t: u64, answer: &mut [u8]) -> Answer
     if clock_back(area, places, t) {
         return Answer::Refused(Refusal::ClockBack);
     }
-    let rows = expire(area, places, t, answer);
-    if rows == 0 {
-        return Answer::Nothing;
+    match expire(area, places, t, answer) {
+        0 => Answer::Nothing,
+        rows => Answer::Timeouts(rows),
     }
-    Answer::Timeouts(rows)
 }

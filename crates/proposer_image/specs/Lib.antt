@@ -1,4 +1,5 @@
 pub mod Good
+pub mod Each
 pub mod Lists
 pub mod Taken
 pub mod GoodLaws

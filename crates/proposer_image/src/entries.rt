@@ -1,63 +1,32 @@
-// Lists of addresses as rows of two-byte entries.
-ghost use Rattle.std.specs.Prelude.{◌≡◌, ◌+◌, ◌*◌, ◌≤◌, length};
+// Lists of addresses: two bytes an entry.
+ghost use Rattle.std.specs.Prelude.{◌≡◌};
 ghost use Rattle.messages.specs.Limits.{none_zero};
-ghost use Rattle.messages.specs.Answers.{entries};
 ghost use Rattle.proposer_place.specs.Area.{distinct};
-ghost use Rattle.proposer_image.specs.Good.{is_wanted, each_listed};
+ghost use Rattle.proposer_area.specs.Entries.{numbers};
+ghost use Rattle.proposer_image.specs.Good.{each_listed};
 
-use proposer_area::listed;
+use proposer_area::{address, listed};
 
 // Whether no entry is 0.
-pub fn none_zero(s: &[u8], at: usize, n: usize) -> bool
-    requires { at + 2 * n ≤ length s.now }
-    ensures { result ≡ none_zero (entries s.now at n) }
+pub fn none_zero(list: &[[u8; 2]]) -> bool
+    ensures { result ≡ none_zero (numbers list.now) }
 {
-    !listed(s, at, n, 0)
+    !listed(list, 0)
 }
 
-// Whether a test has the wanted outcome.
-fn is_wanted(wanted: bool, t: bool) -> bool
-    ensures { result ≡ is_wanted wanted t }
+// Whether each entry is one of the others, or, where `wanted` is false, whether none of them is.
+pub fn each_listed(list: &[[u8; 2]], others: &[[u8; 2]], wanted: bool) -> bool
+    ensures { result ≡ each_listed wanted (numbers list.now) (numbers others.now) }
 {
-    if wanted {
-        return t;
-    }
-    !t
-}
-
-// Whether each of the n entries at `at` is one of the m at `other`, or, where `wanted` is false, whether none of them is.
-pub fn each_listed(s: &[u8], at: usize, n: usize, other: usize, m: usize, wanted: bool) -> bool
-    requires { (at + 2 * n ≤ length s.now) × (other + 2 * m ≤ length s.now) }
-    ensures { result ≡ each_listed wanted (entries s.now at n) (entries s.now other m) }
-{
-    let mut i = 0;
-    while i < n {
-        let found = listed(s, other, m, leaf_fields::get16(s, at + 2 * i));
-        if !is_wanted(wanted, found) {
-            return false;
-        }
-        i += 1;
-    }
-    true
+    list.iter()
+        .all(|entry| listed(others, address(entry)) == wanted)
 }
 
 // Whether no entry stands twice.
-pub fn distinct(s: &[u8], at: usize, n: usize) -> bool
-    requires { at + 2 * n ≤ length s.now }
-    ensures { result ≡ distinct (entries s.now at n) }
+pub fn distinct(list: &[[u8; 2]]) -> bool
+    ensures { result ≡ distinct (numbers list.now) }
 {
-    let mut i = 0;
-    while i < n {
-        let next = i + 1;
-        if listed(
-            s,
-            at + 2 * next,
-            n - next,
-            leaf_fields::get16(s, at + 2 * i),
-        ) {
-            return false;
-        }
-        i = next;
-    }
-    true
+    list.iter()
+        .enumerate()
+        .all(|(i, entry)| !listed(&list[i + 1..], address(entry)))
 }

@@ -3,12 +3,11 @@
 
 mod entries;
 
-ghost use Rattle.std.specs.Prelude.{◌≡◌, true, ◌≤◌, length};
+ghost use Rattle.std.specs.Prelude.{◌≡◌, true, ℕ, ◌≤◌, ◌<◌, length};
 ghost use Rattle.std.specs.Prelude.{Some};
-ghost use Rattle.leaf_fields.specs.Fields.{same, byte};
+ghost use Rattle.leaf_fields.specs.Fields.{byte, same};
 ghost use Rattle.proposer_place.specs.Area.{
   header_bytes,
-  place_bytes,
   read_pending,
   read_places,
   place_image,
@@ -23,8 +22,8 @@ ghost use Rattle.proposer_place.specs.Area as Area;
 ghost use Rattle.proposer_image.specs.Good.{header_good, used_good, place_good, places_good, TakenFrom};
 
 use entries::{distinct, each_listed, none_zero};
-use messages::{KEY_MOST, LIST_MOST, OptionValue, VALUE_MOST};
-use proposer_area::{ACCEPT_LIST, HEADER, PROPOSE_LIST, held, take_header};
+use messages::{KEY_MOST, LIST_MOST, Lent, VALUE_MOST};
+use proposer_area::{ACCEPT_LIST, HEADER, PROPOSE_LIST, held, list, places_in, take_header};
 use proposer_place::{Front, KEY, NO, PLACE, PROMISED, VALUES, WAITED, YES};
 
 // The header: two lists within the limits, and zeros behind them.
@@ -33,153 +32,125 @@ fn header_good(area: &[u8]) -> bool
     ensures { result ≡ header_good area.now }
 {
     let h = take_header(area);
-    if LIST_MOST < h.accept {
-        return false;
-    }
-    if LIST_MOST < h.propose {
-        return false;
-    }
-    if area[18] != 0 {
-        return false;
-    }
-    if area[19] != 0 {
-        return false;
-    }
     let accept = ACCEPT_LIST + 2 * h.accept;
     let propose = PROPOSE_LIST + 2 * h.propose;
-    if !leaf_fields::zeros(&area[accept..PROPOSE_LIST]) {
-        return false;
-    }
-    if !leaf_fields::zeros(&area[propose..HEADER]) {
-        return false;
-    }
-    if !none_zero(area, ACCEPT_LIST, h.accept) {
-        return false;
-    }
-    none_zero(area, PROPOSE_LIST, h.propose)
+    h.accept <= LIST_MOST
+        && h.propose <= LIST_MOST
+        && area[18] == 0
+        && area[19] == 0
+        && leaf_fields::zeros(&area[accept..PROPOSE_LIST])
+        && leaf_fields::zeros(&area[propose..HEADER])
+        && none_zero(list(area, ACCEPT_LIST, h.accept))
+        && none_zero(list(area, PROPOSE_LIST, h.propose))
 }
 
-// Whether the sizes of a pending request are within the limits, and neither its client nor one that it waits for is address 0.
-fn sizes_fit(b: &[u8], f: Front) -> bool
-    requires { TakenFrom b.now f }
-    ensures { result ≡ sizes_fit (read_pending b.now) }
-{
-    if f.client.0 == 0 {
-        return false;
-    }
-    if KEY_MOST < f.key_len {
-        return false;
-    }
-    if VALUE_MOST < f.first_len {
-        return false;
-    }
-    if VALUE_MOST < f.second_len {
-        return false;
-    }
-    if LIST_MOST < f.waiting_for {
-        return false;
-    }
-    if LIST_MOST < f.acks_from {
-        return false;
-    }
-    if LIST_MOST < f.nacks_from {
-        return false;
-    }
-    none_zero(b, WAITED, f.waiting_for)
+// A used place that is read: its bytes, and the front that was taken out of them.
+#[derive(Drop)]
+struct Read<'a> {
+    bytes: &'a [u8; PLACE],
+    front: Front,
+    ghost numbers: { (i : ℕ) → byte bytes.now i < 256 },
+    ghost taken: { TakenFrom bytes.now front },
 }
 
-// What is read of a place and written again is the same bytes.
-fn same_again(b: &[u8], f: Front) -> bool
-    requires { (TakenFrom b.now f) × (sizes_fit (read_pending b.now) ≡ true) }
-    ensures { result ≡ same b.now (place_image (Some (read_pending b.now))) }
-{
-    let mut written = [0u8; PLACE];
-    let waited = WAITED + 2 * f.waiting_for;
-    let yes = YES + 2 * f.acks_from;
-    let no = NO + 2 * f.nacks_from;
-    let key = KEY + f.key_len;
-    let first = VALUES + f.first_len;
-    let second = first + f.second_len;
-    let promised = PROMISED + f.value_len;
-    proposer_place::write(
-        &mut written,
-        f,
-        &b[WAITED..waited],
-        &b[YES..yes],
-        &b[NO..no],
-        &b[KEY..key],
-        &b[VALUES..first],
-        &b[first..second],
-        &b[PROMISED..promised],
-    );
-    leaf_fields::same(b, &written)
-}
+impl<'a> Read<'a> {
+    fn of(bytes: &'a [u8; PLACE]) -> Read<'a>
+        ensures { result.bytes.now ≡ bytes.now }
+    {
+        Read {
+            bytes,
+            front: proposer_place::take(bytes),
+        }
+    }
 
-// Each answerer stands in the waited-for list and answered once.
-fn answers_fit(b: &[u8], f: Front) -> bool
-    requires { (TakenFrom b.now f) × (sizes_fit (read_pending b.now) ≡ true) }
-    ensures { result ≡ answers_fit (read_pending b.now) }
-{
-    if !each_listed(b, YES, f.acks_from, WAITED, f.waiting_for, true) {
-        return false;
+    // Whether the sizes of a pending request are within the limits, and neither its client nor one that it waits for is address 0.
+    fn sizes_fit(&self) -> bool
+        ensures { result ≡ sizes_fit (read_pending self.now.bytes.now) }
+    {
+        let b = self.bytes;
+        let f = self.front;
+        f.client.0 != 0
+            && f.key_len <= KEY_MOST
+            && f.first_len <= VALUE_MOST
+            && f.second_len <= VALUE_MOST
+            && f.waiting_for <= LIST_MOST
+            && f.acks_from <= LIST_MOST
+            && f.nacks_from <= LIST_MOST
+            && none_zero(list(b, WAITED, f.waiting_for))
     }
-    if !each_listed(b, NO, f.nacks_from, WAITED, f.waiting_for, true) {
-        return false;
-    }
-    if !distinct(b, YES, f.acks_from) {
-        return false;
-    }
-    if !distinct(b, NO, f.nacks_from) {
-        return false;
-    }
-    each_listed(b, YES, f.acks_from, NO, f.nacks_from, false)
-}
 
-// Promised ballot 0 has no value.
-fn promise_fits(b: &[u8], f: Front) -> bool
-    requires { TakenFrom b.now f }
-    ensures { result ≡ promise_fits (read_pending b.now).promised (read_pending b.now).value }
-{
-    let mark = f.mark;
-    match mark {
-        OptionValue::None => true,
-        OptionValue::Some => f.promised.0 != 0,
+    // What is read of a place and written again is the same bytes.
+    fn same_again(&self) -> bool
+        requires { sizes_fit (read_pending self.now.bytes.now) ≡ true }
+        ensures { result ≡ same self.now.bytes.now (place_image (Some (read_pending self.now.bytes.now))) }
+    {
+        let mut written = [0u8; PLACE];
+        let b = self.bytes;
+        let f = self.front;
+        let first = VALUES + f.first_len;
+        proposer_place::write(
+            &mut written,
+            f,
+            &b[WAITED..WAITED + 2 * f.waiting_for],
+            &b[YES..YES + 2 * f.acks_from],
+            &b[NO..NO + 2 * f.nacks_from],
+            &b[KEY..KEY + f.key_len],
+            &b[VALUES..first],
+            &b[first..first + f.second_len],
+            &b[PROMISED..PROMISED + f.value_len],
+        );
+        leaf_fields::same(b, &written)
+    }
+
+    // Each answerer stands in the waited-for list and answered once.
+    fn answers_fit(&self) -> bool
+        requires { sizes_fit (read_pending self.now.bytes.now) ≡ true }
+        ensures { result ≡ answers_fit (read_pending self.now.bytes.now) }
+    {
+        let b = self.bytes;
+        let f = self.front;
+        let waited = list(b, WAITED, f.waiting_for);
+        let yes = list(b, YES, f.acks_from);
+        let no = list(b, NO, f.nacks_from);
+        each_listed(yes, waited, true)
+            && each_listed(no, waited, true)
+            && distinct(yes)
+            && distinct(no)
+            && each_listed(yes, no, false)
+    }
+
+    // Promised ballot 0 has no value.
+    fn promise_fits(&self) -> bool
+        ensures { result ≡ promise_fits (read_pending self.now.bytes.now).promised (read_pending self.now.bytes.now).value }
+    {
+        match self.front.mark {
+            None => true,
+            Some(_) => self.front.promised.0 != 0,
+        }
     }
 }
 
 // A used place, under a counter.
-fn used_good(b: &[u8], counter: u64) -> bool
-    requires { length b.now ≡ place_bytes }
+fn used_good(b: &[u8; PLACE], counter: u64) -> bool
     ensures { result ≡ used_good counter b.now }
 {
-    let f = proposer_place::take(b);
-    if !sizes_fit(b, f) {
-        return false;
-    }
-    if !same_again(b, f) {
-        return false;
-    }
-    if !answers_fit(b, f) {
-        return false;
-    }
-    if !promise_fits(b, f) {
-        return false;
-    }
-    if f.ballot.0 < 1 {
-        return false;
-    }
-    f.ballot.0 <= counter
+    let place = Read::of(b);
+    place.sizes_fit()
+        && place.same_again()
+        && place.answers_fit()
+        && place.promise_fits()
+        && (1..=counter).contains(&place.front.ballot.0)
 }
 
 // Any place; a free one is all zeros.
-fn place_good(b: &[u8], counter: u64) -> bool
-    requires { length b.now ≡ place_bytes }
+fn place_good(b: &[u8; PLACE], counter: u64) -> bool
     ensures { result ≡ place_good counter b.now }
 {
     if proposer_place::is_free(b) {
-        return leaf_fields::zeros(b);
+        leaf_fields::zeros(b)
+    } else {
+        used_good(b, counter)
     }
-    used_good(b, counter)
 }
 
 // All places.
@@ -187,15 +158,7 @@ fn places_good(area: &[u8], places: usize, counter: u64) -> bool
     requires { sized area.now places ≡ true }
     ensures { result ≡ places_good counter area.now header_bytes places }
 {
-    let mut i = 0;
-    while i < places {
-        let at = HEADER + PLACE * i;
-        if !place_good(&area[at..at + PLACE], counter) {
-            return false;
-        }
-        i += 1;
-    }
-    true
+    places_in(area).iter().all(|b| place_good(b, counter))
 }
 
 // No two pending requests have one ballot.
@@ -203,22 +166,9 @@ fn ballots_distinct(area: &[u8], places: usize) -> bool
     requires { sized area.now places ≡ true }
     ensures { result ≡ Area.distinct (ballots_of (read_places area.now header_bytes places)) }
 {
-    let mut i = 0;
-    while i < places {
-        let at = HEADER + PLACE * i;
-        i += 1;
-        if !proposer_place::is_free(&area[at..at + PLACE]) {
-            if held(
-                area,
-                i,
-                places,
-                proposer_place::ballot(&area[at..at + PLACE]),
-            ) {
-                return false;
-            }
-        }
-    }
-    true
+    places_in(area).iter().enumerate().all(|(i, b)| {
+        proposer_place::is_free(b) || !held(area, i + 1, places, proposer_place::ballot(b))
+    })
 }
 
 // Whether the area is the image of a state that may be lent.
@@ -226,12 +176,7 @@ pub fn is_image(area: &[u8], places: usize) -> bool
     requires { sized area.now places ≡ true }
     ensures { result ≡ is_image area.now places }
 {
-    if !header_good(area) {
-        return false;
-    }
-    let h = take_header(area);
-    if !places_good(area, places, h.counter) {
-        return false;
-    }
-    ballots_distinct(area, places)
+    header_good(area)
+        && places_good(area, places, take_header(area).counter)
+        && ballots_distinct(area, places)
 }

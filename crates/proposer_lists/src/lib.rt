@@ -8,13 +8,30 @@ ghost use Rattle.proposer_rules.specs.Rules.{with_lists, start};
 ghost use Rattle.proposer_place.specs.Area.{list_bytes, list_row, area_image, read_area, sized};
 ghost use Rattle.proposer_area.specs.Held.{Held};
 
+use messages::LIST_MOST;
 use proposer_area::{ACCEPT_LIST, PROPOSE_LIST};
 
-const ACCEPT_COUNT: usize = 16;
+// A list of the header: where its row begins, and where its count stands.
+#[derive(Clone, Copy)]
+struct Slot {
+    row: usize,
+    count: usize,
+}
 
-const PROPOSE_COUNT: usize = 17;
+const ACCEPT: Slot = Slot {
+    row: ACCEPT_LIST,
+    count: 16,
+};
+
+const PROPOSE: Slot = Slot {
+    row: PROPOSE_LIST,
+    count: 17,
+};
 
 const TIMEOUT: usize = 8;
+
+// The bytes of a list's row.
+const ROW: usize = 2 * LIST_MOST;
 
 // A list's row of 30 bytes: two bytes an entry, unused ones zero.
 fn write_row(d: &mut [u8], list: &[u16])
@@ -22,29 +39,26 @@ fn write_row(d: &mut [u8], list: &[u16])
     ensures { d.new ≡ list_row list.now }
 {
     leaf_fields::clear(d);
-    let mut i = 0;
-    while i < list.len() {
-        leaf_fields::put(d, 2 * i, 2, list[i] as u64);
-        i += 1;
+    for (i, address) in list.iter().enumerate() {
+        leaf_fields::write(d, 2 * i, *address);
     }
 }
 
 // A list in the header: its row and its count.
-fn put_list(area: &mut [u8], row: usize, count: usize, list: &[u16])
-    requires { (row + list_bytes ≤ length area.old) × (count < length area.old) × (length list.now ≤ list_most) }
-    ensures { area.new ≡ set (sets area.old row (list_row list.now)) count (length list.now) }
+fn put_list(area: &mut [u8], slot: Slot, list: &[u16])
+    requires { (slot.row + list_bytes ≤ length area.old) × (slot.count < length area.old) × (length list.now ≤ list_most) }
+    ensures { area.new ≡ set (sets area.old slot.row (list_row list.now)) slot.count (length list.now) }
 {
-    let end = row + 30;
-    write_row(&mut area[row..end], list);
-    area[count] = list.len() as u8;
+    write_row(&mut area[slot.row..slot.row + ROW], list);
+    area[slot.count] = list.len() as u8;
 }
 
-// Another accept list.
+// Another accept list. As one with `set_propose` it would take an enum of the two lists and its matches, for these two lines.
 pub fn set_accept(area: &mut [u8], places: usize, list: &[u16])
     requires { (Held area.old places) × (list_fits list.now ≡ true) }
     ensures { area.new ≡ area_image (with_lists (read_area area.old places) list.now (read_area area.old places).propose_acceptors) }
 {
-    put_list(area, ACCEPT_LIST, ACCEPT_COUNT, list);
+    put_list(area, ACCEPT, list);
 }
 
 // Another propose list.
@@ -52,7 +66,7 @@ pub fn set_propose(area: &mut [u8], places: usize, list: &[u16])
     requires { (Held area.old places) × (list_fits list.now ≡ true) }
     ensures { area.new ≡ area_image (with_lists (read_area area.old places) (read_area area.old places).accept_acceptors list.now) }
 {
-    put_list(area, PROPOSE_LIST, PROPOSE_COUNT, list);
+    put_list(area, PROPOSE, list);
 }
 
 // The image of the start.
@@ -61,7 +75,7 @@ pub fn begin(area: &mut [u8], places: usize, timeout: u64, list: &[u16])
     ensures { area.new ≡ area_image (start timeout list.now places) }
 {
     leaf_fields::clear(area);
-    leaf_fields::put(area, TIMEOUT, 8, timeout);
-    put_list(area, ACCEPT_LIST, ACCEPT_COUNT, list);
-    put_list(area, PROPOSE_LIST, PROPOSE_COUNT, list);
+    leaf_fields::write(area, TIMEOUT, timeout);
+    put_list(area, ACCEPT, list);
+    put_list(area, PROPOSE, list);
 }

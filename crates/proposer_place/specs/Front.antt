@@ -1,9 +1,9 @@
 -- The front of a place as a struct by value: what it says of a pending request, and its bytes. Whole places as rows.
 -- Assumes nothing.
-use Rattle.std.specs.Prelude.{◌≡◌, true, List, [], ◌∷◌, ◌++◌, ℕ, ◌+◌, ◌<◌, length}
+use Rattle.std.specs.Prelude.{◌≡◌, true, List, [], ◌∷◌, ◌++◌, ℕ, ◌+◌, ◌<◌, length, Option, None}
 use Rattle.std.specs.Prelude.{Some}
 use Rattle.leaf_fields.specs.Fields.{to_le, padded}
-use Rattle.messages.specs.declared.OptionValue.{OptionValue}
+use Rattle.messages.specs.declared.Lent.{Lent}
 use Rattle.messages.specs.declared.Req.{Req}
 use Rattle.messages.specs.declared.Ballot.{Ballot}
 use Rattle.messages.specs.Ballots.{ballot0}
@@ -45,7 +45,7 @@ front_of p = record {
 -- ---- what a message makes of it
 
 -- one more yes, and its promise taken over
-abbrev pub with_promise : Front → Ballot → OptionValue → ℕ → Front
+abbrev pub with_promise : Front → Ballot → Option Lent → ℕ → Front
 with_promise f b m n = record {
   phase = f.phase;
   retried = f.retried;
@@ -95,7 +95,7 @@ anew f b n = record {
   key_len = f.key_len;
   first_len = f.first_len;
   second_len = f.second_len;
-  mark = OptionValue.None;
+  mark = None;
   value_len = 0;
   client = f.client;
   id = f.id;
@@ -119,9 +119,9 @@ kind_code Req.Del = 2
 kind_code Req.Set = 3
 kind_code (Req.Cas old new) = 4
 
-abbrev pub mark_code : OptionValue → ℕ
-mark_code OptionValue.None = 0
-mark_code OptionValue.Some = 1
+abbrev pub mark_code : Option Lent → ℕ
+mark_code None = 0
+mark_code (Some mark) = 1
 
 -- the marks of a request's two values
 abbrev pub first_code : Req → ℕ

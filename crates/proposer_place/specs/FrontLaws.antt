@@ -7,9 +7,9 @@ use Rattle.std.specs.Prelude.{Option, None, Some}
 use Rattle.std.proofs.Math.Dec.{eqb}
 use Rattle.std.proofs.Math.ListN.{length}
 use Rattle.leaf_fields.specs.Fields.{to_le, part, byte}
-use Rattle.messages.specs.declared.OptionValue.{OptionValue}
+use Rattle.messages.specs.declared.Lent.{Lent}
 use Rattle.messages.specs.declared.Req.{Req}
-use Rattle.messages.specs.Message.{Key, Value, Request}
+use Rattle.messages.specs.Message.{Key, Value, Request, lent}
 use Rattle.messages.specs.Answers.{marked, bytes_of, request_rpc}
 use Rattle.proposer_place.specs.declared.front.Front.{Front}
 use Rattle.proposer_rules.specs.State.{Phase, Propose, Accept, Pending, key_of}
@@ -64,10 +64,10 @@ length-front_bytes f = refl
 
 -- ---- what a row is read as, by its bytes
 
-value_mark : (mark : ℕ) (v : Value) → marked (value_from mark v) ≡ cond (eqb mark 0) OptionValue.None OptionValue.Some
+value_mark : (mark : ℕ) (v : Value) → marked (value_from mark v) ≡ cond (eqb mark 0) None (Some lent)
 value_mark mark v = go (eqb mark 0)
   where
-    go : (z : Bool) → marked (cond z None (Some v)) ≡ cond z OptionValue.None OptionValue.Some
+    go : (z : Bool) → marked (cond z None (Some v)) ≡ cond z None (Some lent)
     go true = refl
     go false = refl
 
@@ -133,11 +133,11 @@ module _ (b : List ℕ) (long : length b ≡ place_bytes) (small : (i : ℕ) →
   pub front_read : front_of (read_pending b) ≡ record {
     phase = phase_of (phase_from (byte b phase_at));
     retried = eqb (byte b retried_at) 1;
-    req = cond (eqb (byte b kind_at) 1) Req.Get (cond (eqb (byte b kind_at) 2) Req.Del (cond (eqb (byte b kind_at) 3) Req.Set (Req.Cas (cond (eqb (byte b first_mark_at) 0) OptionValue.None OptionValue.Some) (cond (eqb (byte b second_mark_at) 0) OptionValue.None OptionValue.Some))));
+    req = cond (eqb (byte b kind_at) 1) Req.Get (cond (eqb (byte b kind_at) 2) Req.Del (cond (eqb (byte b kind_at) 3) Req.Set (Req.Cas (cond (eqb (byte b first_mark_at) 0) None (Some lent)) (cond (eqb (byte b second_mark_at) 0) None (Some lent)))));
     key_len = byte b key_length_at;
     first_len = cond (eqb (byte b kind_at) 1) 0 (cond (eqb (byte b kind_at) 2) 0 first_length);
     second_len = cond (eqb (byte b kind_at) 1) 0 (cond (eqb (byte b kind_at) 2) 0 (cond (eqb (byte b kind_at) 3) 0 (cond (eqb (byte b second_mark_at) 0) 0 (min (short_at b second_length_at) (768 - cond (eqb (byte b kind_at) 1) 0 (cond (eqb (byte b kind_at) 2) 0 first_length))))));
-    mark = cond (eqb (byte b promised_mark_at) 0) OptionValue.None OptionValue.Some;
+    mark = cond (eqb (byte b promised_mark_at) 0) None (Some lent);
     value_len = cond (eqb (byte b promised_mark_at) 0) 0 (min (short_at b promised_length_at) 256);
     client = record { 0 = short_at b client_at };
     id = long_at b id_at;

@@ -15,7 +15,7 @@ use Rattle.leaf_fields.specs.Fields.{to_le, Bytes, padded}
 use Rattle.leaf_fields.specs.Laws.{length-to_le}
 use Rattle.messages.specs.declared.Address.{Address}
 use Rattle.messages.specs.declared.Ballot.{Ballot}
-use Rattle.messages.specs.declared.OptionValue.{OptionValue}
+use Rattle.messages.specs.declared.Lent.{Lent}
 use Rattle.messages.specs.Message.{Value, given}
 use Rattle.messages.specs.Fit.{marked-given}
 use Rattle.messages.specs.Limits.{key_most, value_most, list_most}
@@ -188,7 +188,7 @@ pub front_yes : (p : Pending) (from : Address) → front_bytes (one_more_yes (fr
 unfolding front_of
 front_yes p from = rw (← length-append p.acks_from (from.0 ∷ [])) (front_bytes_lem (with_yes p from p.promised p.value))
 
-pub front_promise : (p : Pending) (from : Address) (b : Ballot) (m : OptionValue) (v : Value) → front_bytes (with_promise (front_of p) b m (length (bytes_of (given m v)))) ≡ place_front (with_yes p from b (given m v))
+pub front_promise : (p : Pending) (from : Address) (b : Ballot) (m : Option Lent) (v : Value) → front_bytes (with_promise (front_of p) b m (length (bytes_of (given m v)))) ≡ place_front (with_yes p from b (given m v))
 unfolding front_of
 front_promise p from b m v =
     cc (front_bytes_lem (with_yes p from b (given m v)), marked-given m v, length-append p.acks_from (from.0 ∷ []))

@@ -1,5 +1,6 @@
 // The front of a place, bytes 0 to 51, as a struct by value.
-ghost use Rattle.std.specs.Prelude.{◌≡◌, Bool, cond, ◌||◌, ◌≤◌, ◌<◌, ◌-◌, ◌+◌, min, eqb, length};
+ghost use Rattle.messages.specs.Message.{lent};
+ghost use Rattle.std.specs.Prelude.{◌≡◌, Bool, cond, ◌||◌, ◌≤◌, ◌<◌, ◌-◌, ◌+◌, min, eqb, length, None, Some};
 ghost use Rattle.std.proofs.lemmas.List.Edits.{sets};
 ghost use Rattle.leaf_fields.specs.Fields.{byte};
 ghost use Rattle.messages.specs.Answers.{marked};
@@ -30,7 +31,7 @@ ghost use Rattle.proposer_place.specs.Front.{
 };
 
 use super::{PLACE, PROMISED, VALUES};
-use messages::{Address, Ballot, OptionValue, Req};
+use messages::{Address, Ballot, Lent, Req};
 
 // The first phase asks for promises, the second for acceptances.
 #[derive(Clone, Copy)]
@@ -50,7 +51,7 @@ pub struct Front {
     pub first_len: usize,
     pub second_len: usize,
     // the promised value
-    pub mark: OptionValue,
+    pub mark: Option<Lent>,
     pub value_len: usize,
     pub client: Address,
     pub id: u64,
@@ -64,31 +65,16 @@ pub struct Front {
 
 impl Front {
     // One more yes, and its promise taken over.
-    pub fn promised_by(self, promised: Ballot, mark: OptionValue, value_len: usize) -> Front
+    pub fn promised_by(self, promised: Ballot, mark: Option<Lent>, value_len: usize) -> Front
         requires { self.acks_from < 256 }
         ensures { result ≡ with_promise self promised mark value_len }
     {
-        let phase = self.phase;
-        let req = self.req;
-        let client = self.client;
-        let ballot = self.ballot;
         Front {
-            phase: phase,
-            retried: self.retried,
-            req: req,
-            key_len: self.key_len,
-            first_len: self.first_len,
-            second_len: self.second_len,
-            mark: mark,
-            value_len: value_len,
-            client: client,
-            id: self.id,
-            ballot: ballot,
-            promised: promised,
-            received_at: self.received_at,
-            waiting_for: self.waiting_for,
+            mark,
+            value_len,
+            promised,
             acks_from: self.acks_from + 1,
-            nacks_from: self.nacks_from,
+            ..self
         }
     }
 
@@ -96,28 +82,12 @@ impl Front {
     pub fn second_phase(self, n: usize) -> Front
         ensures { result ≡ in_second self n }
     {
-        let req = self.req;
-        let mark = self.mark;
-        let client = self.client;
-        let ballot = self.ballot;
-        let promised = self.promised;
         Front {
             phase: Phase::Accept,
-            retried: self.retried,
-            req: req,
-            key_len: self.key_len,
-            first_len: self.first_len,
-            second_len: self.second_len,
-            mark: mark,
-            value_len: self.value_len,
-            client: client,
-            id: self.id,
-            ballot: ballot,
-            promised: promised,
-            received_at: self.received_at,
             waiting_for: n,
             acks_from: 0,
             nacks_from: 0,
+            ..self
         }
     }
 
@@ -125,63 +95,64 @@ impl Front {
     pub fn again(self, ballot: Ballot, n: usize) -> Front
         ensures { result ≡ anew self ballot n }
     {
-        let req = self.req;
-        let client = self.client;
         Front {
             phase: Phase::Propose,
             retried: true,
-            req: req,
-            key_len: self.key_len,
-            first_len: self.first_len,
-            second_len: self.second_len,
-            mark: OptionValue::None,
+            mark: None,
             value_len: 0,
-            client: client,
-            id: self.id,
-            ballot: ballot,
+            ballot,
             promised: Ballot(0),
-            received_at: self.received_at,
             waiting_for: n,
             acks_from: 0,
             nacks_from: 0,
+            ..self
         }
     }
 }
 
-fn phase_from(byte: u8) -> Phase
-    ensures { result ≡ phase_of (phase_from byte) }
-{
-    if byte == 1 {
-        return Phase::Propose;
+impl From<u8> for Phase {
+    ghost from_gives = { λ byte phase. phase ≡ phase_of (phase_from byte) };
+
+    fn from(byte: u8) -> Phase {
+        match byte {
+            1 => Phase::Propose,
+            _ => Phase::Accept,
+        }
     }
-    Phase::Accept
 }
 
-fn mark_from(byte: u8) -> OptionValue
-    ensures { result ≡ cond (eqb byte 0) OptionValue.None OptionValue.Some }
-{
-    if byte == 0 {
-        return OptionValue::None;
+impl From<Phase> for u8 {
+    ghost from_gives = { λ phase byte. byte ≡ phase_code phase };
+
+    fn from(phase: Phase) -> u8 {
+        match phase {
+            Phase::Propose => 1,
+            Phase::Accept => 2,
+        }
     }
-    OptionValue::Some
+}
+
+fn mark_from(byte: u8) -> Option<Lent>
+    ensures { result ≡ cond (eqb byte 0) None (Some lent) }
+{
+    match byte {
+        0 => None,
+        _ => Some(Lent),
+    }
 }
 
 // The request without its bytes, from its kind and the marks of its two values.
 fn req_from(kind: u8, first: u8, second: u8) -> Req
-    ensures { result ≡ cond (eqb kind 1) Req.Get (cond (eqb kind 2) Req.Del (cond (eqb kind 3) Req.Set (Req.Cas (cond (eqb first 0) OptionValue.None OptionValue.Some) (cond (eqb second 0) OptionValue.None OptionValue.Some)))) }
+    ensures { result ≡ cond (eqb kind 1) Req.Get (cond (eqb kind 2) Req.Del (cond (eqb kind 3) Req.Set (Req.Cas (cond (eqb first 0) None (Some lent)) (cond (eqb second 0) None (Some lent))))) }
 {
-    if kind == 1 {
-        return Req::Get;
-    }
-    if kind == 2 {
-        return Req::Del;
-    }
-    if kind == 3 {
-        return Req::Set;
-    }
-    Req::Cas {
-        old: mark_from(first),
-        new: mark_from(second),
+    match kind {
+        1 => Req::Get,
+        2 => Req::Del,
+        3 => Req::Set,
+        _ => Req::Cas {
+            old: mark_from(first),
+            new: mark_from(second),
+        },
     }
 }
 
@@ -189,27 +160,20 @@ fn req_from(kind: u8, first: u8, second: u8) -> Req
 fn length_from(mark: u8, len: u16, room: usize) -> usize
     ensures { (result ≡ cond (eqb mark 0) 0 (min len room)) × (result ≤ room) }
 {
-    if mark == 0 {
-        return 0;
+    match mark {
+        0 => 0,
+        _ => usize::from(len).min(room),
     }
-    let n = len as usize;
-    if room < n {
-        return room;
-    }
-    n
 }
 
 // The length of a request's first value: `Get` and `Del` have none.
 fn first_from(kind: u8, mark: u8, len: u16) -> usize
     ensures { (result ≡ cond (eqb kind 1) 0 (cond (eqb kind 2) 0 (cond (eqb mark 0) 0 (min len 768)))) × (result ≤ 768) }
 {
-    if kind == 1 {
-        return 0;
+    match kind {
+        1 | 2 => 0,
+        _ => length_from(mark, len, PLACE - VALUES),
     }
-    if kind == 2 {
-        return 0;
-    }
-    length_from(mark, len, PLACE - VALUES)
 }
 
 // And of its second: only a `Cas` has one, directly behind the first.
@@ -217,40 +181,31 @@ fn second_from(kind: u8, mark: u8, len: u16, first: usize) -> usize
     requires { first ≤ 768 }
     ensures { (result ≡ cond (eqb kind 1) 0 (cond (eqb kind 2) 0 (cond (eqb kind 3) 0 (cond (eqb mark 0) 0 (min len (768 - first)))))) × (first + result ≤ 768) }
 {
-    if kind == 1 {
-        return 0;
+    match kind {
+        1 | 2 | 3 => 0,
+        _ => length_from(mark, len, PLACE - VALUES - first),
     }
-    if kind == 2 {
-        return 0;
-    }
-    if kind == 3 {
-        return 0;
-    }
-    length_from(mark, len, PLACE - VALUES - first)
 }
 
 // Whether a place is free.
-pub fn is_free(b: &[u8]) -> bool
-    requires { length b.now ≡ place_bytes }
+pub fn is_free(b: &[u8; PLACE]) -> bool
     ensures { result ≡ eqb (byte b.now used_at) 0 }
 {
     b[0] == 0
 }
 
 // The ballot of a used place.
-pub fn ballot(b: &[u8]) -> Ballot
-    requires { length b.now ≡ place_bytes }
+pub fn ballot(b: &[u8; PLACE]) -> Ballot
     ensures { result ≡ (read_pending b.now).ballot }
 {
-    Ballot(leaf_fields::get64(b, 24))
+    Ballot(leaf_fields::read(b, 24))
 }
 
 // The arrival time of a used place.
-pub fn arrival(b: &[u8]) -> u64
-    requires { length b.now ≡ place_bytes }
+pub fn arrival(b: &[u8; PLACE]) -> u64
     ensures { result ≡ (read_pending b.now).received_at }
 {
-    leaf_fields::get64(b, 40)
+    leaf_fields::read(b, 40)
 }
 
 // The front of a place, taken out.
@@ -258,35 +213,26 @@ pub fn take(b: &[u8]) -> Front
     requires { length b.now ≡ place_bytes }
     ensures { (result ≡ front_of (read_pending b.now)) × (Small result) × (result.first_len + result.second_len ≤ 768) × (result.value_len ≤ 256) }
 {
-    let first = first_from(b[3], b[5], leaf_fields::get16(b, 10));
-    let second = second_from(b[3], b[6], leaf_fields::get16(b, 12), first);
-    let value = length_from(b[7], leaf_fields::get16(b, 14), PLACE - PROMISED);
+    let first = first_from(b[3], b[5], leaf_fields::read::<u16>(b, 10));
+    let second = second_from(b[3], b[6], leaf_fields::read::<u16>(b, 12), first);
+    let value = length_from(b[7], leaf_fields::read::<u16>(b, 14), PLACE - PROMISED);
     Front {
-        phase: phase_from(b[1]),
+        phase: Phase::from(b[1]),
         retried: b[2] == 1,
         req: req_from(b[3], b[5], b[6]),
-        key_len: b[4] as usize,
+        key_len: usize::from(b[4]),
         first_len: first,
         second_len: second,
         mark: mark_from(b[7]),
         value_len: value,
-        client: Address(leaf_fields::get16(b, 8)),
-        id: leaf_fields::get64(b, 16),
-        ballot: Ballot(leaf_fields::get64(b, 24)),
-        promised: Ballot(leaf_fields::get64(b, 32)),
-        received_at: leaf_fields::get64(b, 40),
-        waiting_for: b[48] as usize,
-        acks_from: b[49] as usize,
-        nacks_from: b[50] as usize,
-    }
-}
-
-fn phase_code(phase: Phase) -> u8
-    ensures { result ≡ phase_code phase }
-{
-    match phase {
-        Phase::Propose => 1,
-        Phase::Accept => 2,
+        client: Address(leaf_fields::read(b, 8)),
+        id: leaf_fields::read(b, 16),
+        ballot: Ballot(leaf_fields::read(b, 24)),
+        promised: Ballot(leaf_fields::read(b, 32)),
+        received_at: leaf_fields::read(b, 40),
+        waiting_for: usize::from(b[48]),
+        acks_from: usize::from(b[49]),
+        nacks_from: usize::from(b[50]),
     }
 }
 
@@ -297,48 +243,28 @@ fn kind_code(req: Req) -> u8
         Req::Get => 1,
         Req::Del => 2,
         Req::Set => 3,
-        Req::Cas { old: _, new: _ } => 4,
+        Req::Cas { .. } => 4,
     }
 }
 
-fn mark_code(mark: OptionValue) -> u8
+fn mark_code(mark: Option<Lent>) -> u8
     ensures { result ≡ mark_code mark }
 {
     match mark {
-        OptionValue::None => 0,
-        OptionValue::Some => 1,
+        None => 0,
+        Some(_) => 1,
     }
 }
 
-fn first_code(req: Req) -> u8
-    ensures { result ≡ first_code req }
+// The marks of a request's two values.
+fn marks(req: Req) -> (u8, u8)
+    ensures { (result.0 ≡ first_code req) × (result.1 ≡ second_code req) }
 {
     match req {
-        Req::Get => 0,
-        Req::Del => 0,
-        Req::Set => 1,
-        Req::Cas { old, new: _ } => mark_code(old),
+        Req::Get | Req::Del => (0, 0),
+        Req::Set => (1, 0),
+        Req::Cas { old, new } => (mark_code(old), mark_code(new)),
     }
-}
-
-fn second_code(req: Req) -> u8
-    ensures { result ≡ second_code req }
-{
-    match req {
-        Req::Get => 0,
-        Req::Del => 0,
-        Req::Set => 0,
-        Req::Cas { old: _, new } => mark_code(new),
-    }
-}
-
-fn flag_code(flag: bool) -> u8
-    ensures { result ≡ flag_byte flag }
-{
-    if flag {
-        return 1;
-    }
-    0
 }
 
 // Bytes 8 to 47.
@@ -346,14 +272,14 @@ fn put_numbers(b: &mut [u8], f: Front)
     requires { waited_at ≤ length b.old }
     ensures { b.new ≡ sets b.old 8 (number_bytes f) }
 {
-    leaf_fields::put(b, 8, 2, f.client.0 as u64);
+    leaf_fields::write(b, 8, f.client.0);
     leaf_fields::put(b, 10, 2, f.first_len as u64);
     leaf_fields::put(b, 12, 2, f.second_len as u64);
     leaf_fields::put(b, 14, 2, f.value_len as u64);
-    leaf_fields::put(b, 16, 8, f.id);
-    leaf_fields::put(b, 24, 8, f.ballot.0);
-    leaf_fields::put(b, 32, 8, f.promised.0);
-    leaf_fields::put(b, 40, 8, f.received_at);
+    leaf_fields::write(b, 16, f.id);
+    leaf_fields::write(b, 24, f.ballot.0);
+    leaf_fields::write(b, 32, f.promised.0);
+    leaf_fields::write(b, 40, f.received_at);
 }
 
 // Bytes 0 to 7.
@@ -361,17 +287,21 @@ fn put_marks(b: &mut [u8], f: Front)
     requires { (waited_at ≤ length b.old) × (Small f) }
     ensures { b.new ≡ sets b.old 0 (mark_bytes f) }
 {
-    let phase = f.phase;
-    let req = f.req;
-    let mark = f.mark;
-    b[0] = 1;
-    b[1] = phase_code(phase);
-    b[2] = flag_code(f.retried);
-    b[3] = kind_code(req);
-    b[4] = f.key_len as u8;
-    b[5] = first_code(req);
-    b[6] = second_code(req);
-    b[7] = mark_code(mark);
+    let (first, second) = marks(f.req);
+    leaf_fields::copy(
+        b,
+        0,
+        &[
+            1,
+            u8::from(f.phase),
+            u8::from(f.retried),
+            kind_code(f.req),
+            f.key_len as u8,
+            first,
+            second,
+            mark_code(f.mark),
+        ],
+    );
 }
 
 // Bytes 48 to 51.
@@ -379,10 +309,16 @@ fn put_counts(b: &mut [u8], f: Front)
     requires { (waited_at ≤ length b.old) × (Small f) }
     ensures { b.new ≡ sets b.old 48 (count_bytes f) }
 {
-    b[48] = f.waiting_for as u8;
-    b[49] = f.acks_from as u8;
-    b[50] = f.nacks_from as u8;
-    b[51] = 0;
+    leaf_fields::copy(
+        b,
+        48,
+        &[
+            f.waiting_for as u8,
+            f.acks_from as u8,
+            f.nacks_from as u8,
+            0,
+        ],
+    );
 }
 
 // The front of a place, put back.

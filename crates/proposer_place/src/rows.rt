@@ -15,7 +15,7 @@ ghost use Rattle.proposer_place.specs.Area.{
 ghost use Rattle.proposer_place.specs.Front.{front_bytes, place_rows, Small, Used};
 
 use super::{Front, KEY, LISTS_END, NO, PLACE, PROMISED, VALUES, WAITED, YES, put, take};
-use messages::{Address, Ballot, OptionValue};
+use messages::{Address, Ballot, Lent};
 
 // The three lists of a place of zeros.
 fn write_lists(b: &mut [u8], waited: &[u8], yes: &[u8], no: &[u8])
@@ -50,15 +50,20 @@ pub fn write(
     put(b, f);
 }
 
-// One more no.
+// One more no. As one function with `note_yes` it would take the row and the field as parameters, for these two lines.
 pub fn note_no(b: &mut [u8], from: Address)
     requires { (Used b.old) × (length (read_pending b.old).nacks_from < list_most) }
     ensures { b.new ≡ place_image (Some (with_no (read_pending b.old) from)) }
 {
-    let mut f = take(b);
-    leaf_fields::put(b, NO + 2 * f.nacks_from, 2, from.0 as u64);
-    f.nacks_from += 1;
-    put(b, f);
+    let f = take(b);
+    leaf_fields::write(b, NO + 2 * f.nacks_from, from.0);
+    put(
+        b,
+        Front {
+            nacks_from: f.nacks_from + 1,
+            ..f
+        },
+    );
 }
 
 // One more yes; the promise stays as it was.
@@ -66,20 +71,25 @@ pub fn note_yes(b: &mut [u8], from: Address)
     requires { (Used b.old) × (length (read_pending b.old).acks_from < list_most) }
     ensures { b.new ≡ place_image (Some (with_yes (read_pending b.old) from (read_pending b.old).promised (read_pending b.old).value)) }
 {
-    let mut f = take(b);
-    leaf_fields::put(b, YES + 2 * f.acks_from, 2, from.0 as u64);
-    f.acks_from += 1;
-    put(b, f);
+    let f = take(b);
+    leaf_fields::write(b, YES + 2 * f.acks_from, from.0);
+    put(
+        b,
+        Front {
+            acks_from: f.acks_from + 1,
+            ..f
+        },
+    );
 }
 
 // One more yes, whose ballot and value are taken over as the highest promised.
-pub fn note_promise(b: &mut [u8], from: Address, ballot: Ballot, mark: OptionValue, value: &[u8])
+pub fn note_promise(b: &mut [u8], from: Address, ballot: Ballot, mark: Option<Lent>, value: &[u8])
     requires { (Used b.old) × (length (read_pending b.old).acks_from < list_most) × (length (bytes_of (given mark value.now)) ≤ value_most) }
     ensures { b.new ≡ place_image (Some (with_yes (read_pending b.old) from ballot (given mark value.now))) }
 {
     let f = take(b);
     let bytes = messages::present(mark, value);
-    leaf_fields::put(b, YES + 2 * f.acks_from, 2, from.0 as u64);
+    leaf_fields::write(b, YES + 2 * f.acks_from, from.0);
     leaf_fields::clear(&mut b[PROMISED..PLACE]);
     leaf_fields::copy(b, PROMISED, bytes);
     put(b, f.promised_by(ballot, mark, bytes.len()));

@@ -13,7 +13,7 @@ use Rattle.messages.specs.declared.Error.{Error}
 use Rattle.messages.specs.declared.answer.Answer.{Answer}
 use Rattle.messages.specs.declared.answer.Refusal.{Refusal}
 use Rattle.messages.specs.Ballots.{above}
-use Rattle.messages.specs.Message.{Value, Failure, Result, Reply, failure_of}
+use Rattle.messages.specs.Message.{Value, Failure, Verdict, Reply, failure_of}
 use Rattle.messages.specs.Limits.{value_most, list_most}
 use Rattle.messages.specs.Answers.{bytes_of, answer_of}
 use Rattle.messages.specs.Refusals.{test, first_due}
@@ -107,7 +107,7 @@ module _ (a w : List ℕ) (n i : ℕ) (f : Front) (from : Address) (b : Ballot) 
   q = promised_by p from b v
 
   abbrev promise_due : Option Refusal
-  promise_due = first_due (test (promise_above p Result.Ok) Refusal.PromisedAbove ∷ [])
+  promise_due = first_due (test (promise_above p Verdict.Granted) Refusal.PromisedAbove ∷ [])
 
   parts : (q.ballot ≡ p.ballot) × (q.acks_from ≡ p.acks_from ++ (from.0 ∷ [])) × (q.waiting_for ≡ p.waiting_for)
   parts = promised_parts p from b v (above b p.promised)
@@ -178,7 +178,7 @@ module _ (a w : List ℕ) (n i : ℕ) (f : Front) (h : Header) (from : Address) 
   asked_one = read_pending (place_in a i)
 
   abbrev ballot_due : Option Refusal
-  ballot_due = first_due (test (no_ballot before asked_one from (Result.Err (Failure.ProposalRejected last))) Refusal.CounterUsedUp ∷ [])
+  ballot_due = first_due (test (no_ballot before asked_one from (Verdict.Denied (Failure.ProposalRejected last))) Refusal.CounterUsedUp ∷ [])
 
   noes_reached : reached (with_no asked_one from).nacks_from asked_one.waiting_for ≡ leb (majority_of f.waiting_for) (f.nacks_from + 1)
   unfolding front_of

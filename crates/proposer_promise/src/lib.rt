@@ -11,10 +11,10 @@ ghost use Rattle.proposer_area.specs.Places.{place_in};
 ghost use Rattle.proposer_works.specs.Works.{answer_bytes, Asks, Worked, granting, rejecting};
 ghost use Rattle.proposer_area.specs.Held.{Held};
 
-use messages::{Address, Answer, Ballot, Error, OptionValue, Refusal, Res};
+use messages::{Address, Answer, Ballot, Error, Lent, Refusal};
 use proposer_place::Phase;
 use proposer_rounds::{propose_again, to_accept};
-use proposer_works::{COUNTER_MOST, drop_with, higher, raise_with, short_of};
+use proposer_works::{COUNTER_MOST, drop_with, raise_with, short_of};
 
 // An Ok promise from one who is waited for and has not answered.
 fn granted(
@@ -23,7 +23,7 @@ fn granted(
     i: usize,
     from: Address,
     accepted: Ballot,
-    mark: OptionValue,
+    mark: Option<Lent>,
     value: &[u8],
     answer: &mut [u8],
 ) -> Answer
@@ -31,8 +31,7 @@ fn granted(
     ensures { Worked answer.old (granting (read_area area.old places) (read_pending (place_in area.old i)) from accepted (given mark value.now)) result area.new answer.new }
 {
     let f = proposer_area::take_place(area, i);
-    let ballot = f.ballot;
-    if !ballot.above(f.promised) {
+    if !f.ballot.above(f.promised) {
         return Answer::Refused(Refusal::PromisedAbove);
     }
     proposer_area::note_promise(area, i, f, from, accepted, mark, value);
@@ -56,19 +55,13 @@ fn rejected(
 {
     let h = proposer_area::take_header(area);
     let f = proposer_area::take_place(area, i);
-    let counter = higher(h.counter, last.0);
+    let counter = h.counter.max(last.0);
     if short_of(f.nacks_from + 1, f.waiting_for) {
         raise_with(area, places, i, counter, from);
         return Answer::Nothing;
     }
     if f.retried {
-        return drop_with(
-            area,
-            places,
-            i,
-            counter,
-            Error::ProposalRejected { last: last },
-        );
+        return drop_with(area, places, i, counter, Error::ProposalRejected { last });
     }
     if counter == COUNTER_MOST {
         return Answer::Refused(Refusal::CounterUsedUp);
@@ -83,21 +76,19 @@ pub fn promise(
     from: Address,
     ballot: Ballot,
     accepted: Ballot,
-    mark: OptionValue,
+    mark: Option<Lent>,
     value: &[u8],
-    res: Res,
+    res: Result<(), Error>,
     answer: &mut [u8],
 ) -> Answer
     requires { (Held area.old places) × (length answer.old ≡ answer_bytes places) × (may_be_lent (read_area area.old places) ≡ true) × (option_fits (given mark value.now) ≡ true) }
     ensures { (w : List ℕ) → Worked answer.old (on_promise (read_area area.old places) (pending_at ballot (read_area area.old places).places) from accepted (given mark value.now) (result_of res w)) result area.new answer.new }
 {
-    let i = proposer_area::find(area, places, ballot);
-    if i == places {
+    let Some(i) = proposer_area::find(area, places, ballot) else {
         return Answer::Nothing;
-    }
+    };
     let f = proposer_area::take_place(area, i);
-    let phase = f.phase;
-    if let Phase::Accept = phase {
+    if let Phase::Accept = f.phase {
         return Answer::Nothing;
     }
     if proposer_area::has_answered(area, i, f, from) {
@@ -107,12 +98,12 @@ pub fn promise(
         return Answer::Refused(Refusal::NotWaitedFor);
     }
     match res {
-        Res::Ok => granted(area, places, i, from, accepted, mark, value, answer),
-        Res::Err(e) => match e {
+        Ok(_) => granted(area, places, i, from, accepted, mark, value, answer),
+        Err(e) => match e {
             Error::ProposalRejected { last } => rejected(area, places, i, from, last, answer),
-            Error::AcceptRejected { last: _ } => Answer::Refused(Refusal::ForeignError),
-            Error::CasFailed(_) => Answer::Refused(Refusal::ForeignError),
-            Error::Timeout => Answer::Refused(Refusal::ForeignError),
+            Error::AcceptRejected { .. } | Error::CasFailed(_) | Error::Timeout => {
+                Answer::Refused(Refusal::ForeignError)
+            }
         },
     }
 }

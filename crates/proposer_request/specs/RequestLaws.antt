@@ -13,7 +13,7 @@ use Rattle.leaf_fields.specs.Fields.{to_le, byte, Bytes}
 use Rattle.leaf_fields.specs.Laws.{and_true}
 use Rattle.leaf_fields.specs.Rows.{bytes_none}
 use Rattle.messages.specs.declared.Address.{Address}
-use Rattle.messages.specs.declared.OptionValue.{OptionValue}
+use Rattle.messages.specs.declared.Lent.{Lent}
 use Rattle.messages.specs.declared.Req.{Req}
 use Rattle.messages.specs.declared.Rpc.{Rpc}
 use Rattle.messages.specs.declared.answer.Answer.{Answer}
@@ -102,15 +102,15 @@ module _ (from : Address) (id : ℕ) (req : Req) (k v w : List ℕ) (limits : wi
   bytes_first Req.Get h = bytes_none
   bytes_first Req.Del h = bytes_none
   bytes_first Req.Set h = h
-  bytes_first (Req.Cas OptionValue.None new) h = bytes_none
-  bytes_first (Req.Cas OptionValue.Some new) h = h
+  bytes_first (Req.Cas None new) h = bytes_none
+  bytes_first (Req.Cas (Some mark) new) h = h
 
   bytes_second : (req : Req) → Bytes w → Bytes (bytes_of (second_value (request_of req k v w)))
   bytes_second Req.Get h = bytes_none
   bytes_second Req.Del h = bytes_none
   bytes_second Req.Set h = bytes_none
-  bytes_second (Req.Cas old OptionValue.None) h = bytes_none
-  bytes_second (Req.Cas old OptionValue.Some) h = h
+  bytes_second (Req.Cas old None) h = bytes_none
+  bytes_second (Req.Cas old (Some mark)) h = h
 
   lawful_request : Bytes k → Bytes v → Bytes w → LawfulRequest (request_of req k v w)
   lawful_request hk hv hw =
@@ -155,7 +155,7 @@ module _ (a w : List ℕ) (n : ℕ) (h : Header) (from : Address) (at id : ℕ) 
   lawful_here hk hv ho hf hi ha hc =
       lawful_new from id rq (next_ballot s.counter) s.propose_acceptors at false hf hi (lawful_request from id req key value other limits hk hv ho) hc held.lawful.propose ha
 
-  pub request_taken : (i : ℕ) (first second : List ℕ) (f : Front) (w₁ a₁ a₂ : List ℕ) (r : Answer) → ((j : ℕ) → byte key j < 256) → ((j : ℕ) → byte value j < 256) → ((j : ℕ) → byte other j < 256) → from.0 < 2 ^ 16 → id < 2 ^ 64 → at < 2 ^ 64 → h.counter < 2 ^ 64 → (h.counter ≡ 18446744073709551615 → ⊥) → i ≡ free_of (read_places a header_bytes n) → i ≤ n → (i ≡ n → ⊥) → first ≡ bytes_of (first_value rq) → second ≡ bytes_of (second_value rq) → f ≡ record { phase = Code.Phase.Propose; retried = false; req = req; key_len = length key; first_len = length first; second_len = length second; mark = OptionValue.None; value_len = 0; client = from; id = id; ballot = record { 0 = h.counter + 1 }; promised = record { 0 = 0 }; received_at = at; waiting_for = h.propose; acks_from = 0; nacks_from = 0 } → w₁ ≡ sent_in w [] key list → a₁ ≡ sets a (place_at i) (place_rows (front_bytes f) (take (320 + 2 * h.propose - 320) (drop 320 w₁)) [] [] key (first ++ second) []) → a₂ ≡ sets a₁ counter_at (to_le 8 (h.counter + 1)) → r ≡ cond (eqb h.propose 0) Answer.Nothing (Answer.Broadcast (Rpc.ProposeReq (record { 0 = h.counter + 1 })) h.propose (length key) 0) → Worked w (on_request s from at id rq) r a₂ w₁
+  pub request_taken : (i : ℕ) (first second : List ℕ) (f : Front) (w₁ a₁ a₂ : List ℕ) (r : Answer) → ((j : ℕ) → byte key j < 256) → ((j : ℕ) → byte value j < 256) → ((j : ℕ) → byte other j < 256) → from.0 < 2 ^ 16 → id < 2 ^ 64 → at < 2 ^ 64 → h.counter < 2 ^ 64 → (h.counter ≡ 18446744073709551615 → ⊥) → i ≡ free_of (read_places a header_bytes n) → i ≤ n → (i ≡ n → ⊥) → first ≡ bytes_of (first_value rq) → second ≡ bytes_of (second_value rq) → f ≡ record { phase = Code.Phase.Propose; retried = false; req = req; key_len = length key; first_len = length first; second_len = length second; mark = None; value_len = 0; client = from; id = id; ballot = record { 0 = h.counter + 1 }; promised = record { 0 = 0 }; received_at = at; waiting_for = h.propose; acks_from = 0; nacks_from = 0 } → w₁ ≡ sent_in w [] key list → a₁ ≡ sets a (place_at i) (place_rows (front_bytes f) (take (320 + 2 * h.propose - 320) (drop 320 w₁)) [] [] key (first ++ second) []) → a₂ ≡ sets a₁ counter_at (to_le 8 (h.counter + 1)) → r ≡ cond (eqb h.propose 0) Answer.Nothing (Answer.Broadcast (Rpc.ProposeReq (record { 0 = h.counter + 1 })) h.propose (length key) 0) → Worked w (on_request s from at id rq) r a₂ w₁
   unfolding read_area front_of
   request_taken i first second f w₁ a₁ a₂ r hk hv ho hf hi ha most ne ei small ni e1 e2 ef ew ea₁ ea₂ er =
       let within : i < n = omega (arith, small, ni) in

@@ -10,7 +10,7 @@ ghost use Rattle.proposer_place.specs.Area.{first_value, second_value, read_area
 ghost use Rattle.proposer_works.specs.Works.{answer_bytes, Worked};
 ghost use Rattle.proposer_area.specs.Held.{Held};
 
-use messages::{Address, Answer, Ballot, ENTRIES_AT, OptionValue, Refusal, Req, Rpc};
+use messages::{Address, Answer, Ballot, ENTRIES_AT, Lent, Refusal, Req, Rpc};
 use proposer_area::PROPOSE_LIST;
 use proposer_place::{Front, Phase};
 use proposer_works::{COUNTER_MOST, broadcast, send};
@@ -20,10 +20,9 @@ fn first_value(req: Req, value: &[u8]) -> &[u8]
     ensures { (k w : List ℕ) → result.now ≡ bytes_of (first_value (request_of req k value.now w)) }
 {
     match req {
-        Req::Get => &value[0..0],
-        Req::Del => &value[0..0],
+        Req::Get | Req::Del => &[],
         Req::Set => value,
-        Req::Cas { old, new: _ } => messages::present(old, value),
+        Req::Cas { old, .. } => messages::present(old, value),
     }
 }
 
@@ -32,10 +31,8 @@ fn second_value(req: Req, other: &[u8]) -> &[u8]
     ensures { (k v : List ℕ) → result.now ≡ bytes_of (second_value (request_of req k v other.now)) }
 {
     match req {
-        Req::Get => &other[0..0],
-        Req::Del => &other[0..0],
-        Req::Set => &other[0..0],
-        Req::Cas { old: _, new } => messages::present(new, other),
+        Req::Cas { new, .. } => messages::present(new, other),
+        _ => &[],
     }
 }
 
@@ -59,27 +56,26 @@ pub fn request(
     if h.counter == COUNTER_MOST {
         return Answer::Refused(Refusal::CounterUsedUp);
     }
-    let i = proposer_area::lowest_free(area, places);
-    if i == places {
+    let Some(i) = proposer_area::lowest_free(area, places) else {
         return Answer::Refused(Refusal::NoRoom);
-    }
+    };
     let list = PROPOSE_LIST + 2 * h.propose;
-    send(answer, &key[0..0], key, &area[PROPOSE_LIST..list]);
+    send(answer, &[], key, &area[PROPOSE_LIST..list]);
     let ballot = Ballot(h.counter + 1);
     let first = first_value(req, value);
     let second = second_value(req, other);
     let f = Front {
         phase: Phase::Propose,
         retried: false,
-        req: req,
+        req,
         key_len: key.len(),
         first_len: first.len(),
         second_len: second.len(),
-        mark: OptionValue::None,
+        mark: None,
         value_len: 0,
         client: from,
-        id: id,
-        ballot: ballot,
+        id,
+        ballot,
         promised: Ballot(0),
         received_at: at,
         waiting_for: h.propose,

@@ -9,7 +9,7 @@ use Rattle.std.specs.Prelude.{Option, Some}
 use Rattle.std.proofs.Math.Seq.{sets}
 use Rattle.leaf_fields.specs.Fields.{to_le}
 use Rattle.messages.specs.declared.Ballot.{Ballot}
-use Rattle.messages.specs.declared.OptionValue.{OptionValue}
+use Rattle.messages.specs.declared.Lent.{Lent}
 use Rattle.messages.specs.declared.Req.{Req}
 use Rattle.messages.specs.declared.Rpc.{Rpc}
 use Rattle.messages.specs.declared.answer.Answer.{Answer}
@@ -72,7 +72,7 @@ module _ (a : List ℕ) (n i : ℕ) (f : Front) (held : Held a n) (pends : Pends
       ∙ ap (λ (j : ℕ). entries (entry_bytes s.accept_acceptors) 0 j) accept_here
       ∙ entries_back s.accept_acceptors held.lawful.accept
 
-  pub second_begun : (req : Req) (mark new : OptionValue) (ballot : Ballot) (len : ℕ) (w₁ a₁ : List ℕ) (r : Answer) → req ≡ f.req → mark ≡ f.mark → ballot ≡ f.ballot → new ≡ marked (applied (request_in req values f.first_len) (given mark promised)).value → len ≡ length (bytes_of (applied (request_in req values f.first_len) (given mark promised)).value) → w₁ ≡ sent_in w (bytes_of (applied (request_in req values f.first_len) (given mark promised)).value) key accept_list → a₁ ≡ sets a (place_at i) (place_image (Some (second_phase (entries (take (320 + 2 * h.accept - 320) (drop 320 w₁)) 0 h.accept) p))) → r ≡ cond (eqb h.accept 0) Answer.Nothing (Answer.Broadcast (Rpc.AcceptReq ballot new) h.accept f.key_len len) → Worked w (accepting s i p) r a₁ w₁
+  pub second_begun : (req : Req) (mark new : Option Lent) (ballot : Ballot) (len : ℕ) (w₁ a₁ : List ℕ) (r : Answer) → req ≡ f.req → mark ≡ f.mark → ballot ≡ f.ballot → new ≡ marked (applied (request_in req values f.first_len) (given mark promised)).value → len ≡ length (bytes_of (applied (request_in req values f.first_len) (given mark promised)).value) → w₁ ≡ sent_in w (bytes_of (applied (request_in req values f.first_len) (given mark promised)).value) key accept_list → a₁ ≡ sets a (place_at i) (place_image (Some (second_phase (entries (take (320 + 2 * h.accept - 320) (drop 320 w₁)) 0 h.accept) p))) → r ≡ cond (eqb h.accept 0) Answer.Nothing (Answer.Broadcast (Rpc.AcceptReq ballot new) h.accept f.key_len len) → Worked w (accepting s i p) r a₁ w₁
   unfolding front_of
   second_begun req mark new ballot len w₁ a₁ r ereq emark eballot enew elen ew ea er =
       let v : Option Value = (applied p.req p.value).value in

@@ -7,7 +7,7 @@ use Rattle.messages.specs.declared.Ballot.{Ballot}
 use Rattle.messages.specs.declared.Req.{Req}
 use Rattle.messages.specs.declared.answer.Refusal.{Refusal}
 use Rattle.messages.specs.Ballots.{above}
-use Rattle.messages.specs.Message.{Key, Value, Request, Failure, Result, Reply, Message, given}
+use Rattle.messages.specs.Message.{Key, Value, Request, Failure, Verdict, Reply, Message, given}
 use Rattle.messages.specs.Limits.{within_limits}
 use Rattle.messages.specs.Refusals.{Test, test, first_due}
 use Rattle.messages.specs.Answers.{Row, Told, nothing, one, each, timeouts, refused}
@@ -183,28 +183,28 @@ to_accept s p = second_phase s.accept_acceptors p
 -- ---- ProposeRes in the first phase
 
 -- "a `ProposeRes` error other than `ProposalRejected`"
-abbrev pub foreign_promise : Result → Bool
-foreign_promise Result.Ok = false
-foreign_promise (Result.Err (Failure.ProposalRejected last)) = false
-foreign_promise (Result.Err (Failure.AcceptRejected last)) = true
-foreign_promise (Result.Err (Failure.CasFailed v)) = true
-foreign_promise (Result.Err Failure.Timeout) = true
+abbrev pub foreign_promise : Verdict → Bool
+foreign_promise Verdict.Granted = false
+foreign_promise (Verdict.Denied (Failure.ProposalRejected last)) = false
+foreign_promise (Verdict.Denied (Failure.AcceptRejected last)) = true
+foreign_promise (Verdict.Denied (Failure.CasFailed v)) = true
+foreign_promise (Verdict.Denied Failure.Timeout) = true
 
 -- "Ok promise while the request's ballot isn't above the highest promised"
-abbrev pub promise_above : Pending → Result → Bool
-promise_above p Result.Ok = not (above p.ballot p.promised)
-promise_above p (Result.Err e) = false
+abbrev pub promise_above : Pending → Verdict → Bool
+promise_above p Verdict.Granted = not (above p.ballot p.promised)
+promise_above p (Verdict.Denied e) = false
 
 -- "a new ballot is needed and the counter, raised as this message says, is 2^64-1"
-abbrev pub no_ballot : Proposer → Pending → Address → Result → Bool
-no_ballot s p from Result.Ok = false
-no_ballot s p from (Result.Err (Failure.ProposalRejected last)) =
+abbrev pub no_ballot : Proposer → Pending → Address → Verdict → Bool
+no_ballot s p from Verdict.Granted = false
+no_ballot s p from (Verdict.Denied (Failure.ProposalRejected last)) =
     reached (with_no p from).nacks_from p.waiting_for && not p.retried && used_up (raised s.counter last)
-no_ballot s p from (Result.Err (Failure.AcceptRejected last)) = false
-no_ballot s p from (Result.Err (Failure.CasFailed v)) = false
-no_ballot s p from (Result.Err Failure.Timeout) = false
+no_ballot s p from (Verdict.Denied (Failure.AcceptRejected last)) = false
+no_ballot s p from (Verdict.Denied (Failure.CasFailed v)) = false
+no_ballot s p from (Verdict.Denied Failure.Timeout) = false
 
-abbrev pub promise_tests : Proposer → Pending → Address → Result → List Test
+abbrev pub promise_tests : Proposer → Pending → Address → Verdict → List Test
 promise_tests s p from res =
     sender_tests p from
     ++ (test (foreign_promise res) Refusal.ForeignError
@@ -231,19 +231,19 @@ granted s p =
     (to_each s.accept_acceptors (Message.AcceptReq p.ballot (key_of p.req) (applied p.req p.value).value)))
     (outcome (moved s s.counter (replace_at p.ballot (Some p) s.places)) nothing)
 
-abbrev pub promise_work : Proposer → Pending → Address → Ballot → Option Value → Result → Outcome
-promise_work s p from a v Result.Ok = granted s (promised_by p from a v)
-promise_work s p from a v (Result.Err (Failure.ProposalRejected last)) = rejected s p from last
-promise_work s p from a v (Result.Err (Failure.AcceptRejected last)) = outcome s nothing
-promise_work s p from a v (Result.Err (Failure.CasFailed w)) = outcome s nothing
-promise_work s p from a v (Result.Err Failure.Timeout) = outcome s nothing
+abbrev pub promise_work : Proposer → Pending → Address → Ballot → Option Value → Verdict → Outcome
+promise_work s p from a v Verdict.Granted = granted s (promised_by p from a v)
+promise_work s p from a v (Verdict.Denied (Failure.ProposalRejected last)) = rejected s p from last
+promise_work s p from a v (Verdict.Denied (Failure.AcceptRejected last)) = outcome s nothing
+promise_work s p from a v (Verdict.Denied (Failure.CasFailed w)) = outcome s nothing
+promise_work s p from a v (Verdict.Denied Failure.Timeout) = outcome s nothing
 
 -- "if its ballot isn't pending or is past the first phase, silence and no change"
-abbrev pub in_first : Proposer → Pending → Phase → Address → Ballot → Option Value → Result → Outcome
+abbrev pub in_first : Proposer → Pending → Phase → Address → Ballot → Option Value → Verdict → Outcome
 in_first s p Accept from a v res = outcome s nothing
 in_first s p Propose from a v res = unless (first_due (promise_tests s p from res)) s (promise_work s p from a v res)
 
-abbrev pub on_promise : Proposer → Option Pending → Address → Ballot → Option Value → Result → Outcome
+abbrev pub on_promise : Proposer → Option Pending → Address → Ballot → Option Value → Verdict → Outcome
 on_promise s None from a v res = outcome s nothing
 on_promise s (Some p) from a v res = in_first s p p.phase from a v res
 
@@ -255,14 +255,14 @@ first_phase Propose = true
 first_phase Accept = false
 
 -- "an `AcceptRes` error other than `AcceptRejected`"
-abbrev pub foreign_acceptance : Result → Bool
-foreign_acceptance Result.Ok = false
-foreign_acceptance (Result.Err (Failure.ProposalRejected last)) = true
-foreign_acceptance (Result.Err (Failure.AcceptRejected last)) = false
-foreign_acceptance (Result.Err (Failure.CasFailed v)) = true
-foreign_acceptance (Result.Err Failure.Timeout) = true
+abbrev pub foreign_acceptance : Verdict → Bool
+foreign_acceptance Verdict.Granted = false
+foreign_acceptance (Verdict.Denied (Failure.ProposalRejected last)) = true
+foreign_acceptance (Verdict.Denied (Failure.AcceptRejected last)) = false
+foreign_acceptance (Verdict.Denied (Failure.CasFailed v)) = true
+foreign_acceptance (Verdict.Denied Failure.Timeout) = true
 
-abbrev pub acceptance_tests : Pending → Address → Result → List Test
+abbrev pub acceptance_tests : Pending → Address → Verdict → List Test
 acceptance_tests p from res =
     test (first_phase p.phase) Refusal.FirstPhase ∷ sender_tests p from ++ (test (foreign_acceptance res) Refusal.ForeignError ∷ [])
 
@@ -280,14 +280,14 @@ taken s p =
     (outcome (moved s s.counter (replace_at p.ballot None s.places)) (to_client p (reply_of p.req p.value)))
     (outcome (moved s s.counter (replace_at p.ballot (Some p) s.places)) nothing)
 
-abbrev pub acceptance_work : Proposer → Pending → Address → Result → Outcome
-acceptance_work s p from Result.Ok = taken s (with_yes p from p.promised p.value)
-acceptance_work s p from (Result.Err (Failure.ProposalRejected last)) = outcome s nothing
-acceptance_work s p from (Result.Err (Failure.AcceptRejected last)) = turned_down s p from last
-acceptance_work s p from (Result.Err (Failure.CasFailed v)) = outcome s nothing
-acceptance_work s p from (Result.Err Failure.Timeout) = outcome s nothing
+abbrev pub acceptance_work : Proposer → Pending → Address → Verdict → Outcome
+acceptance_work s p from Verdict.Granted = taken s (with_yes p from p.promised p.value)
+acceptance_work s p from (Verdict.Denied (Failure.ProposalRejected last)) = outcome s nothing
+acceptance_work s p from (Verdict.Denied (Failure.AcceptRejected last)) = turned_down s p from last
+acceptance_work s p from (Verdict.Denied (Failure.CasFailed v)) = outcome s nothing
+acceptance_work s p from (Verdict.Denied Failure.Timeout) = outcome s nothing
 
-abbrev pub on_acceptance : Proposer → Option Pending → Address → Result → Outcome
+abbrev pub on_acceptance : Proposer → Option Pending → Address → Verdict → Outcome
 on_acceptance s None from res = outcome s nothing
 on_acceptance s (Some p) from res = unless (first_due (acceptance_tests p from res)) s (acceptance_work s p from res)
 

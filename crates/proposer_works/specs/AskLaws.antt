@@ -9,7 +9,7 @@ use Rattle.messages.specs.declared.Address.{Address}
 use Rattle.messages.specs.declared.Ballot.{Ballot}
 use Rattle.messages.specs.declared.answer.Answer.{Answer}
 use Rattle.messages.specs.declared.answer.Refusal.{Refusal}
-use Rattle.messages.specs.Message.{Value, Failure, Result}
+use Rattle.messages.specs.Message.{Value, Failure, Verdict}
 use Rattle.messages.specs.Limits.{list_fits}
 use Rattle.messages.specs.Answers.{nothing}
 use Rattle.messages.specs.Refusals.{pick_first, first_due}
@@ -41,10 +41,10 @@ module _ (a w : List ℕ) (n i : ℕ) (ballot : Ballot) (held : Held a n) (ei : 
   unfolding read_area
   none_pending e = find_none ballot s.places (sym ei ∙ e ∙ sym held.lawful.full)
 
-  pub silent_promise : (from : Address) (b : Ballot) (v : Option Value) (res : Result) → i ≡ n → Worked w (on_promise s (pending_at ballot s.places) from b v res) Answer.Nothing a w
+  pub silent_promise : (from : Address) (b : Ballot) (v : Option Value) (res : Verdict) → i ≡ n → Worked w (on_promise s (pending_at ballot s.places) from b v res) Answer.Nothing a w
   silent_promise from b v res e = silent a w s _ held.image (rw (none_pending e))
 
-  pub silent_acceptance : (from : Address) (res : Result) → i ≡ n → Worked w (on_acceptance s (pending_at ballot s.places) from res) Answer.Nothing a w
+  pub silent_acceptance : (from : Address) (res : Verdict) → i ≡ n → Worked w (on_acceptance s (pending_at ballot s.places) from res) Answer.Nothing a w
   silent_acceptance from res e = silent a w s _ held.image (rw (none_pending e))
 
   -- ---- the request at place i
@@ -140,23 +140,23 @@ module _ (a w : List ℕ) (n i : ℕ) (ballot : Ballot) (f : Front) (from : Addr
       by Accept d = let z : ◌≡◌ {A = ℕ} 0 1 = cc in absurd (omega arith)
 
   -- past the first phase: silence
-  pub late_promise : (res : Result) → f.phase ≡ Code.Phase.Accept → Worked w (on_promise state (pending_at ballot state.places) from b v res) Answer.Nothing a w
+  pub late_promise : (res : Verdict) → f.phase ≡ Code.Phase.Accept → Worked w (on_promise state (pending_at ballot state.places) from b v res) Answer.Nothing a w
   late_promise res e = silent a w state (on_promise state (pending_at ballot state.places) from b v res) held.image (rw (only, second_phase_lem e))
 
   module _ (first : f.phase ≡ Code.Phase.Propose) where
-    in_first_lem : (res : Result) → on_promise state (pending_at ballot state.places) from b v res ≡ unless (first_due (promise_tests state p from res)) state (promise_work state p from b v res)
+    in_first_lem : (res : Verdict) → on_promise state (pending_at ballot state.places) from b v res ≡ unless (first_due (promise_tests state p from res)) state (promise_work state p from b v res)
     in_first_lem res = ap (λ (o : Option Pending). on_promise state o from b v res) only ∙ ap (λ (h : Phase). in_first state p h from b v res) (first_phase_lem first)
 
-    first_refused : (res : Result) (r : Refusal) → first_due (promise_tests state p from res) ≡ Some r → Worked w (on_promise state (pending_at ballot state.places) from b v res) (Answer.Refused r) a w
+    first_refused : (res : Verdict) (r : Refusal) → first_due (promise_tests state p from res) ≡ Some r → Worked w (on_promise state (pending_at ballot state.places) from b v res) (Answer.Refused r) a w
     first_refused res r due =
         subst (λ (o : Outcome). Worked w o (Answer.Refused r) a w) (sym (in_first_lem res))
         (refused_work a w state (first_due (promise_tests state p from res)) (promise_work state p from b v res) r held.image due)
 
-    pub promise_repeated : (res : Result) (answered : Bool) → answered ≡ (listed from.0 p.acks_from || listed from.0 p.nacks_from) → answered ≡ true → Worked w (on_promise state (pending_at ballot state.places) from b v res) (Answer.Refused Refusal.Repeated) a w
+    pub promise_repeated : (res : Verdict) (answered : Bool) → answered ≡ (listed from.0 p.acks_from || listed from.0 p.nacks_from) → answered ≡ true → Worked w (on_promise state (pending_at ballot state.places) from b v res) (Answer.Refused Refusal.Repeated) a w
     promise_repeated res answered ea yes-answered = first_refused res Refusal.Repeated (rw (sym ea ∙ yes-answered))
 
     module _ (answered : Bool) (ea : answered ≡ (listed from.0 p.acks_from || listed from.0 p.nacks_from)) (not_yet : answered ≡ false) where
-      pub promise_unasked : (res : Result) (waited : Bool) → waited ≡ listed from.0 p.waiting_for → waited ≡ false → Worked w (on_promise state (pending_at ballot state.places) from b v res) (Answer.Refused Refusal.NotWaitedFor) a w
+      pub promise_unasked : (res : Verdict) (waited : Bool) → waited ≡ listed from.0 p.waiting_for → waited ≡ false → Worked w (on_promise state (pending_at ballot state.places) from b v res) (Answer.Refused Refusal.NotWaitedFor) a w
       promise_unasked res waited ew missing = first_refused res Refusal.NotWaitedFor (rw (sym ea ∙ not_yet, sym ew ∙ missing))
 
       module _ (waited : Bool) (ew : waited ≡ listed from.0 p.waiting_for) (there : waited ≡ true) where
@@ -164,15 +164,15 @@ module _ (a w : List ℕ) (n i : ℕ) (ballot : Ballot) (f : Front) (from : Addr
         sender_passes : (rest : Option Refusal) → pick_first (listed from.0 p.acks_from || listed from.0 p.nacks_from) Refusal.Repeated (pick_first (not (listed from.0 p.waiting_for)) Refusal.NotWaitedFor rest) ≡ rest
         sender_passes rest = rw (sym ea ∙ not_yet, sym ew ∙ there)
 
-        handed_on : (res : Result) (rest : Option Refusal) (r : Answer) (a' w' : List ℕ) → first_due (promise_tests state p from res) ≡ rest → Worked w (unless rest state (promise_work state p from b v res)) r a' w' → Worked w (on_promise state (pending_at ballot state.places) from b v res) r a' w'
+        handed_on : (res : Verdict) (rest : Option Refusal) (r : Answer) (a' w' : List ℕ) → first_due (promise_tests state p from res) ≡ rest → Worked w (unless rest state (promise_work state p from b v res)) r a' w' → Worked w (on_promise state (pending_at ballot state.places) from b v res) r a' w'
         handed_on res rest r a' w' e h =
             subst (λ (o : Outcome). Worked w o r a' w') (sym (in_first_lem res ∙ ap (λ (t : Option Refusal). unless t state (promise_work state p from b v res)) e)) h
 
-        pub promise_ok : (r : Answer) (a' w' : List ℕ) → Worked w (granting state p from b v) r a' w' → Worked w (on_promise state (pending_at ballot state.places) from b v Result.Ok) r a' w'
-        promise_ok r a' w' h = handed_on Result.Ok _ r a' w' (sender_passes _) h
+        pub promise_ok : (r : Answer) (a' w' : List ℕ) → Worked w (granting state p from b v) r a' w' → Worked w (on_promise state (pending_at ballot state.places) from b v Verdict.Granted) r a' w'
+        promise_ok r a' w' h = handed_on Verdict.Granted _ r a' w' (sender_passes _) h
 
-        pub promise_rejected : (last : Ballot) (r : Answer) (a' w' : List ℕ) → Worked w (rejecting state p from last b v) r a' w' → Worked w (on_promise state (pending_at ballot state.places) from b v (Result.Err (Failure.ProposalRejected last))) r a' w'
-        promise_rejected last r a' w' h = handed_on (Result.Err (Failure.ProposalRejected last)) _ r a' w' (sender_passes _) h
+        pub promise_rejected : (last : Ballot) (r : Answer) (a' w' : List ℕ) → Worked w (rejecting state p from last b v) r a' w' → Worked w (on_promise state (pending_at ballot state.places) from b v (Verdict.Denied (Failure.ProposalRejected last))) r a' w'
+        promise_rejected last r a' w' h = handed_on (Verdict.Denied (Failure.ProposalRejected last)) _ r a' w' (sender_passes _) h
 
-        pub promise_foreign : (e : Failure) → foreign_promise (Result.Err e) ≡ true → Worked w (on_promise state (pending_at ballot state.places) from b v (Result.Err e)) (Answer.Refused Refusal.ForeignError) a w
-        promise_foreign e strange = first_refused (Result.Err e) Refusal.ForeignError (sender_passes _ ∙ rw strange)
+        pub promise_foreign : (e : Failure) → foreign_promise (Verdict.Denied e) ≡ true → Worked w (on_promise state (pending_at ballot state.places) from b v (Verdict.Denied e)) (Answer.Refused Refusal.ForeignError) a w
+        promise_foreign e strange = first_refused (Verdict.Denied e) Refusal.ForeignError (sender_passes _ ∙ rw strange)

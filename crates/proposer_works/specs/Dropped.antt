@@ -1,14 +1,13 @@
 -- A request dropped, and a no noted, with another counter.
 -- Assumes nothing.
-use Rattle.std.specs.Prelude.{◌≡◌, refl, List, [], ℕ, ◌^◌, ◌<◌}
+use Rattle.std.specs.Prelude.{◌≡◌, refl, List, [], ℕ, ◌^◌, ◌<◌, Err}
 use Rattle.std.proofs.Common.{ap, ◌∙◌}
 use Rattle.std.specs.Prelude.{None, Some}
 use Rattle.std.proofs.lemmas.List.Edits.{sets}
 use Rattle.leaf_fields.specs.Fields.{to_le}
 use Rattle.messages.specs.declared.Address.{Address}
-use Rattle.messages.specs.declared.OptionValue.{OptionValue}
+use Rattle.messages.specs.declared.Lent.{Lent}
 use Rattle.messages.specs.declared.Error.{Error}
-use Rattle.messages.specs.declared.Response.{Response}
 use Rattle.messages.specs.declared.Rpc.{Rpc}
 use Rattle.messages.specs.declared.answer.Answer.{Answer}
 use Rattle.messages.specs.Message.{Reply, failure_of}
@@ -28,15 +27,15 @@ pub dropped : (a : List ℕ) (n i counter : ℕ) (a₁ a₂ : List ℕ) → Held
 dropped a n i counter a₁ a₂ held pends e₁ e₂ =
     e₂ ∙ ap (λ (u : List ℕ). sets u counter_at (to_le 8 counter)) e₁ ∙ with_both a n held i counter None pends.within tt
 
-pub dropped_told : (f : Front) (p : Pending) (error : Error) → f ≡ front_of p → Answer.Message f.client (Rpc.ClientResponse f.id (Response.Err error)) 0 ≡ answer_of (to_client p (Reply.Failed (failure_of error [])))
+pub dropped_told : (f : Front) (p : Pending) (error : Error) → f ≡ front_of p → Answer.Message f.client (Rpc.ClientResponse f.id (Err error)) 0 ≡ answer_of (to_client p (Reply.Failed (failure_of error [])))
 unfolding front_of
 dropped_told f p error ef = rw ef (by error)
   where
-    by : (error : Error) → Answer.Message p.client (Rpc.ClientResponse p.id (Response.Err error)) 0 ≡ answer_of (to_client p (Reply.Failed (failure_of error [])))
+    by : (error : Error) → Answer.Message p.client (Rpc.ClientResponse p.id (Err error)) 0 ≡ answer_of (to_client p (Reply.Failed (failure_of error [])))
     by (Error.ProposalRejected last) = refl
     by (Error.AcceptRejected last) = refl
-    by (Error.CasFailed OptionValue.None) = refl
-    by (Error.CasFailed OptionValue.Some) = refl
+    by (Error.CasFailed None) = refl
+    by (Error.CasFailed (Some mark)) = refl
     by Error.Timeout = refl
 
 pub no_noted : (a : List ℕ) (n i counter : ℕ) (from : Address) (a₁ a₂ : List ℕ) → Held a n → Asks a n i → from.0 < 2 ^ 16 → a₁ ≡ sets a (place_at i) (place_image (Some (with_no (read_pending (place_in a i)) from))) → a₂ ≡ sets a₁ counter_at (to_le 8 counter) → a₂ ≡ area_image (placed (read_area a n) counter i (Some (with_no (read_pending (place_in a i)) from)))

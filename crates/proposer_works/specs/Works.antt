@@ -6,7 +6,7 @@ use Rattle.messages.specs.declared.Address.{Address}
 use Rattle.messages.specs.declared.Ballot.{Ballot}
 use Rattle.messages.specs.declared.answer.Answer.{Answer}
 use Rattle.messages.specs.declared.answer.Refusal.{Refusal}
-use Rattle.messages.specs.Message.{Value, Failure, Result, Message}
+use Rattle.messages.specs.Message.{Value, Failure, Verdict, Message}
 use Rattle.messages.specs.Limits.{list_most}
 use Rattle.messages.specs.Refusals.{test, first_due}
 use Rattle.messages.specs.Answers.{rows_at, row_bytes, answer_of, written_in}
@@ -58,9 +58,9 @@ settled s i p = outcome (placed s s.counter i None) (to_client p (reply_of p.req
 -- an Ok promise, and a refused proposal, whose sender may answer
 abbrev pub granting : Proposer → Pending → Address → Ballot → Option Value → Outcome
 granting s p from b v =
-    unless (first_due (test (promise_above p Result.Ok) Refusal.PromisedAbove ∷ [])) s (promise_work s p from b v Result.Ok)
+    unless (first_due (test (promise_above p Verdict.Granted) Refusal.PromisedAbove ∷ [])) s (promise_work s p from b v Verdict.Granted)
 
 abbrev pub rejecting : Proposer → Pending → Address → Ballot → Ballot → Option Value → Outcome
 rejecting s p from last b v =
-    unless (first_due (test (no_ballot s p from (Result.Err (Failure.ProposalRejected last))) Refusal.CounterUsedUp ∷ [])) s
-    (promise_work s p from b v (Result.Err (Failure.ProposalRejected last)))
+    unless (first_due (test (no_ballot s p from (Verdict.Denied (Failure.ProposalRejected last))) Refusal.CounterUsedUp ∷ [])) s
+    (promise_work s p from b v (Verdict.Denied (Failure.ProposalRejected last)))

@@ -16,17 +16,17 @@ ghost use Rattle.proposer_area.specs.Held.{Held, Pends};
 ghost use Rattle.proposer_works.specs.Works.{Asks, placed};
 
 pub use messages::{ENTRIES_AT, KEY_AT, ROW, ROWS_AT};
-use messages::{Address, Answer, Error, Response, Rpc};
+use messages::{Address, Answer, Error, Rpc};
 
 // The largest counter: no ballot is above it.
-pub const COUNTER_MOST: u64 = 18446744073709551615;
+pub const COUNTER_MOST: u64 = u64::MAX;
 
 // The value, the key and the entries of a message. A list without entries is the answer nothing, which needs no bytes.
-pub fn send<'a>(answer: &mut [u8], value: &'a [u8], key: &'a [u8], list: &'a [u8])
+pub fn send(answer: &mut [u8], value: &[u8], key: &[u8], list: &[u8])
     requires { (rows_at ≤ length answer.old) × (length value.now ≤ value_most) × (length key.now ≤ key_most) × (length list.now ≤ list_bytes) }
     ensures { answer.new ≡ cond (eqb (length list.now) 0) answer.old (sets (sets (sets answer.old 0 value.now) key_at key.now) entries_at list.now) }
 {
-    if list.len() == 0 {
+    if list.is_empty() {
         return;
     }
     leaf_fields::copy(answer, 0, value);
@@ -42,10 +42,10 @@ pub fn broadcast(rpc: Rpc, entries: usize, key_len: usize, value_len: usize) -> 
         return Answer::Nothing;
     }
     Answer::Broadcast {
-        rpc: rpc,
-        entries: entries,
-        key_len: key_len,
-        value_len: value_len,
+        rpc,
+        entries,
+        key_len,
+        value_len,
     }
 }
 
@@ -56,16 +56,6 @@ pub fn short_of(answers: usize, n: usize) -> bool
     answers < proposer_change::majority(n)
 }
 
-// The higher of two numbers.
-pub fn higher(x: u64, y: u64) -> u64
-    ensures { result ≡ max x y }
-{
-    if x < y {
-        return y;
-    }
-    x
-}
-
 // The request at place i dropped, its client told an error, and the counter raised.
 pub fn drop_with(area: &mut [u8], places: usize, i: usize, counter: u64, error: Error) -> Answer
     requires { (Held area.old places) × (Pends area.old places i) }
@@ -74,10 +64,9 @@ pub fn drop_with(area: &mut [u8], places: usize, i: usize, counter: u64, error: 
     let f = proposer_area::take_place(area, i);
     proposer_area::drop_place(area, i);
     proposer_area::put_counter(area, counter);
-    let client = f.client;
     Answer::Message {
-        to: client,
-        rpc: Rpc::ClientResponse(f.id, Response::Err(error)),
+        to: f.client,
+        rpc: Rpc::ClientResponse(f.id, Err(error)),
         value_len: 0,
     }
 }

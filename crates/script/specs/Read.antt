@@ -1,6 +1,6 @@
 -- What `read` makes of a line: its step, and the step's bytes and numbers in the lent buffers. With room for all of them each is read back.
 -- Assumes nothing.
-use Rattle.std.specs.Prelude.{◌≡◌, Bool, true, cond, ℕ, ◌+◌, ◌-◌, ◌≤◌, eqb, length, take}
+use Rattle.std.specs.Prelude.{◌≡◌, Bool, true, cond, ℕ, ◌+◌, ◌-◌, ◌≤◌, eqb, length, take, unwrap_or}
 use Rattle.std.proofs.Math.Path.{ap}
 use Rattle.std.proofs.Common.{◌∙◌, arith}
 use mathlib.Core.List.{List, [], ◌∷◌}
@@ -14,7 +14,7 @@ use Rattle.script_words.specs.Limits.{bytes_most, list_most_lem}
 use Rattle.script_words.specs.Written.{written, behind}
 use Rattle.script.specs.declared.step.Step.{Step}
 use Rattle.script.specs.declared.step.Line.{Line}
-use Rattle.script.specs.Steps.{step_in, step_words}
+use Rattle.script.specs.Steps.{step_in, step_words, word_in}
 
 -- an empty line, or a remark, which begins with `#`
 unfoldable pub is_passed : List ℕ → Bool
@@ -22,20 +22,20 @@ is_passed [] = true
 is_passed (b ∷ l) = eqb b 35
 
 unfoldable pub step_of : List ℕ → Step
-step_of line = cond (is_passed line) Step.Pass (step_in (nth (words_of line)) (length (words_of line)))
+step_of line = cond (is_passed line) Step.Pass (unwrap_or (step_in (nth (words_of line)) (length (words_of line))) Step.Unreadable)
 
 -- the bytes of a line's key, value and other value, and the numbers of its list
 unfoldable pub key_of : List ℕ → List ℕ
-key_of line = bytes_of (nth (words_of line) (step_words (step_of line)).key)
+key_of line = bytes_of (word_in (nth (words_of line)) (step_words (step_of line)).key)
 
 unfoldable pub value_of : List ℕ → List ℕ
-value_of line = bytes_of (nth (words_of line) (step_words (step_of line)).value)
+value_of line = bytes_of (word_in (nth (words_of line)) (step_words (step_of line)).value)
 
 unfoldable pub other_of : List ℕ → List ℕ
-other_of line = bytes_of (nth (words_of line) (step_words (step_of line)).other)
+other_of line = bytes_of (word_in (nth (words_of line)) (step_words (step_of line)).other)
 
 unfoldable pub numbers_of : List ℕ → List ℕ
-numbers_of line = list_of (nth (words_of line) (step_words (step_of line)).list)
+numbers_of line = list_of (word_in (nth (words_of line)) (step_words (step_of line)).list)
 
 -- a line read into lent buffers: the key, the value and the other value one behind the other, and the list's numbers. `order` follows from the rest, for callers
 pub record Read (line bytes list : List ℕ) (r : Line) (bytes' list' : List ℕ) : Type 0 where
@@ -76,19 +76,19 @@ other_stored b key value other k v o ek ev eo room =
 -- each has at most 600 bytes
 key_most_lem : (line : List ℕ) → length (key_of line) ≤ 600
 unfolding key_of
-key_most_lem line = bytes_most (nth (words_of line) (step_words (step_of line)).key)
+key_most_lem line = bytes_most (word_in (nth (words_of line)) (step_words (step_of line)).key)
 
 value_most_lem : (line : List ℕ) → length (value_of line) ≤ 600
 unfolding value_of
-value_most_lem line = bytes_most (nth (words_of line) (step_words (step_of line)).value)
+value_most_lem line = bytes_most (word_in (nth (words_of line)) (step_words (step_of line)).value)
 
 other_most : (line : List ℕ) → length (other_of line) ≤ 600
 unfolding other_of
-other_most line = bytes_most (nth (words_of line) (step_words (step_of line)).other)
+other_most line = bytes_most (word_in (nth (words_of line)) (step_words (step_of line)).other)
 
 numbers_most : (line : List ℕ) → length (numbers_of line) ≤ 32
 unfolding numbers_of
-numbers_most line = list_most_lem (nth (words_of line) (step_words (step_of line)).list)
+numbers_most line = list_most_lem (word_in (nth (words_of line)) (step_words (step_of line)).list)
 
 module _ (line bytes list : List ℕ) (r : Line) (bytes' list' : List ℕ) (h : Read line bytes list r bytes' list') where
   key_at_lem : 1800 ≤ length bytes → r.key ≡ length (key_of line)

@@ -1,70 +1,70 @@
 -- The steps of a script, as docs/SCRIPT.md has its lines. A line is its words w, of which it has n; the first is w 0, and past the last each is empty.
 -- Assumes nothing.
-use Rattle.std.specs.Prelude.{Bool, cond, List, ℕ, eqb}
+use Rattle.std.specs.Prelude.{Bool, cond, List, [], ℕ, eqb, Option, Some, None}
 use Rattle.leaf_fields.specs.Fields.{same}
-use Rattle.script_words.specs.declared.number.Number.{Number}
-use Rattle.script_words.specs.declared.number.Sender.{Sender}
+use Rattle.messages.specs.declared.Address.{Address}
+use Rattle.messages.specs.declared.Rpc.{Rpc}
 use Rattle.script_words.specs.Letters.{letters}
 use Rattle.script_words.specs.Text.{number_of, address_of, bytes_word, list_word}
-use Rattle.script_message.specs.declared.message.Message.{Message}
 use Rattle.script_message.specs.declared.places.Places.{Places}
 use Rattle.script_message.specs.Messages.{message_in}
 use Rattle.script_message.specs.Words.{words_at, list_at, message_words}
 use Rattle.script.specs.declared.step.Step.{Step}
 
 -- `acceptor REGISTERS`
-abbrev pub acceptor_by : Number → Step
-acceptor_by Number.Bad = Step.Unreadable
-acceptor_by (Number.Good registers) = Step.Acceptor registers
+abbrev pub acceptor_by : Option ℕ → Option Step
+acceptor_by None = None
+acceptor_by (Some registers) = Some (Step.Acceptor registers)
 
 -- `proposer PLACES TIMEOUT LIST`
-abbrev pub proposer_by : Number → Number → Bool → Step
-proposer_by Number.Bad t l = Step.Unreadable
-proposer_by (Number.Good places) Number.Bad l = Step.Unreadable
-proposer_by (Number.Good places) (Number.Good timeout) l = cond l (Step.Proposer places timeout) Step.Unreadable
+abbrev pub proposer_by : Option ℕ → Option ℕ → Bool → Option Step
+proposer_by None t l = None
+proposer_by (Some places) None l = None
+proposer_by (Some places) (Some timeout) l = cond l (Some (Step.Proposer places timeout)) None
 
 -- `clock TIME`
-abbrev pub clock_by : Number → Step
-clock_by Number.Bad = Step.Unreadable
-clock_by (Number.Good time) = Step.Clock time
+abbrev pub clock_by : Option ℕ → Option Step
+clock_by None = None
+clock_by (Some time) = Some (Step.Clock time)
 
 -- `tick TIME`
-abbrev pub tick_by : Number → Step
-tick_by Number.Bad = Step.Unreadable
-tick_by (Number.Good time) = Step.Tick time
+abbrev pub tick_by : Option ℕ → Option Step
+tick_by None = None
+tick_by (Some time) = Some (Step.Tick time)
 
 -- `lend CAPACITY BYTES AREA`
-abbrev pub lend_by : Number → Number → Number → Step
-lend_by Number.Bad b a = Step.Unreadable
-lend_by (Number.Good registers) Number.Bad a = Step.Unreadable
-lend_by (Number.Good registers) (Number.Good bytes) Number.Bad = Step.Unreadable
-lend_by (Number.Good registers) (Number.Good bytes) (Number.Good area) = Step.Lend registers bytes area
+abbrev pub lend_by : Option ℕ → Option ℕ → Option ℕ → Option Step
+lend_by None b a = None
+lend_by (Some registers) None a = None
+lend_by (Some registers) (Some bytes) None = None
+lend_by (Some registers) (Some bytes) (Some area) = Some (Step.Lend registers bytes area)
 
 -- `poke AT BYTES`
-abbrev pub poke_by : Number → Bool → Step
-poke_by Number.Bad b = Step.Unreadable
-poke_by (Number.Good at) b = cond b (Step.Poke at) Step.Unreadable
+abbrev pub poke_by : Option ℕ → Bool → Option Step
+poke_by None b = None
+poke_by (Some at) b = cond b (Some (Step.Poke at)) None
 
 -- `FROM MESSAGE`
-abbrev pub sent_by : Sender → Message → Step
-sent_by Sender.Bad m = Step.Unreadable
-sent_by (Sender.Good from) Message.Bad = Step.Unreadable
-sent_by (Sender.Good from) (Message.Good m) = Step.Message from m
+abbrev pub sent_by : Option Address → Option Rpc → Option Step
+sent_by None m = None
+sent_by (Some from) None = None
+sent_by (Some from) (Some m) = Some (Step.Message from m)
 
--- a step that has k words
-abbrev pub of_words : ℕ → ℕ → Step → Step
-of_words n k s = cond (eqb n k) s Step.Unreadable
+-- what a step of k words has
+abbrev pub of_words : {A : Type 0} → ℕ → ℕ → Option A → Option A
+of_words n k s = cond (eqb n k) s None
 
 -- a step on the lent table and answer area, by its name, or a message
-unfoldable pub lent_in : List ℕ → (ℕ → List ℕ) → ℕ → Step
+unfoldable pub lent_in : List ℕ → (ℕ → List ℕ) → ℕ → Option Step
 lent_in name w n =
     cond (same name (letters "lend")) (of_words n 4 (lend_by (number_of (w 1)) (number_of (w 2)) (number_of (w 3))))
     (cond (same name (letters "poke")) (of_words n 3 (poke_by (number_of (w 1)) (bytes_word (w 2))))
-    (cond (same name (letters "table")) (of_words n 1 Step.Table)
-    (cond (same name (letters "area")) (of_words n 1 Step.Area)
+    (cond (same name (letters "table")) (of_words n 1 (Some Step.Table))
+    (cond (same name (letters "area")) (of_words n 1 (Some Step.Area))
     (sent_by (address_of (w 0)) (message_in w n)))))
 
-unfoldable pub step_in : (ℕ → List ℕ) → ℕ → Step
+-- the step of a line; none where it is unreadable
+unfoldable pub step_in : (ℕ → List ℕ) → ℕ → Option Step
 step_in w n =
     cond (same (w 0) (letters "tick")) (of_words n 2 (tick_by (number_of (w 1))))
     (cond (same (w 0) (letters "acceptor")) (of_words n 2 (acceptor_by (number_of (w 1))))
@@ -72,16 +72,21 @@ step_in w n =
     (cond (same (w 0) (letters "clock")) (of_words n 2 (clock_by (number_of (w 1))))
     (lent_in (w 0) w n))))
 
--- the words that hold a step's bytes and its list; 8 is the place of no word
+-- the words that hold a step's bytes and its list
 abbrev pub step_words : Step → Places
-step_words Step.Pass = words_at 8 8 8
-step_words (Step.Acceptor n) = words_at 8 8 8
+step_words Step.Pass = words_at None None None
+step_words (Step.Acceptor n) = words_at None None None
 step_words (Step.Proposer n t) = list_at 3
-step_words (Step.Clock t) = words_at 8 8 8
-step_words (Step.Lend n b a) = words_at 8 8 8
-step_words (Step.Poke a) = words_at 8 2 8
-step_words Step.Table = words_at 8 8 8
-step_words Step.Area = words_at 8 8 8
-step_words (Step.Tick t) = words_at 8 8 8
+step_words (Step.Clock t) = words_at None None None
+step_words (Step.Lend n b a) = words_at None None None
+step_words (Step.Poke a) = words_at None (Some 2) None
+step_words Step.Table = words_at None None None
+step_words Step.Area = words_at None None None
+step_words (Step.Tick t) = words_at None None None
 step_words (Step.Message from m) = message_words m
-step_words Step.Unreadable = words_at 8 8 8
+step_words Step.Unreadable = words_at None None None
+
+-- the word at a place; empty where there is no place
+abbrev pub word_in : (ℕ → List ℕ) → Option ℕ → List ℕ
+word_in w None = []
+word_in w (Some i) = w i

@@ -1,32 +1,16 @@
 // A line of a script: which step it is, and its bytes in lent buffers.
-ghost use Rattle.std.specs.Prelude.{◌≡◌};
+ghost use Rattle.std.specs.Prelude.{◌≡◌, cond, unwrap_or};
 ghost use Rattle.script_words.specs.Text.{number_of, address_of, bytes_word, list_word};
 ghost use Rattle.script_words.specs.Split.{word_at};
 ghost use Rattle.script_message.specs.Messages.{message_in};
-ghost use Rattle.script.specs.Steps.{
-  acceptor_by,
-  proposer_by,
-  clock_by,
-  lend_by,
-  poke_by,
-  tick_by,
-  sent_by,
-  of_words,
-  lent_in,
-  step_in,
-  step_words,
-};
+ghost use Rattle.script.specs.declared.step.Step.{Step};
+ghost use Rattle.script.specs.Steps.{proposer_by, lend_by, poke_by, sent_by, of_words, lent_in, step_in, step_words, word_in};
 ghost use Rattle.script.specs.Read.{is_passed, Read};
 
 use leaf_fields::same;
 use messages::{Address, Rpc};
-use script_message::{
-    Message, Places, no_places, places_of, poke_places, read_message, start_places,
-};
-use script_words::{
-    Number, Sender, Words, is_bytes, is_list, read_address, read_list, read_number, split, unhex,
-    word,
-};
+use script_message::{Places, places_of, read_message};
+use script_words::{Words, is_bytes, is_list, read_address, read_list, read_number, split, unhex};
 
 #[derive(Clone, Copy)]
 pub enum Step {
@@ -51,7 +35,8 @@ pub enum Step {
     Unreadable,
 }
 
-// A step, where its key, its value and its other value end in the lent bytes, one behind the other, and how many numbers its list has.
+// A step, where its key, its value and its other value end in the lent bytes, one behind the other, and how many numbers its list has. Ends
+// and not slices: `Read` says every byte of the lent buffers, and `key_there` and the theorems behind it where each part stands.
 #[derive(Clone, Copy)]
 pub struct Line {
     pub step: Step,
@@ -61,209 +46,139 @@ pub struct Line {
     pub list: usize,
 }
 
-fn read_acceptor(line: &[u8], words: Words) -> Step
-    ensures { result ≡ of_words words.n 2 (acceptor_by (number_of (word_at line.now words 1))) }
+// The number of a step that has one, behind its name.
+fn read_lone(words: &Words<'_>) -> Option<u64>
+    ensures { result ≡ of_words words.now.n 2 (number_of (word_at words.now 1)) }
 {
     if words.n != 2 {
-        return Step::Unreadable;
+        return None;
     }
-    let Number::Good(registers) = read_number(word(line, words, 1)) else {
-        return Step::Unreadable;
-    };
-    Step::Acceptor(registers as usize)
+    read_number(words.word(1))
 }
 
-fn read_proposer(line: &[u8], words: Words) -> Step
-    ensures { result ≡ of_words words.n 4 (proposer_by (number_of (word_at line.now words 1)) (number_of (word_at line.now words 2)) (list_word (word_at line.now words 3))) }
+fn read_proposer(words: &Words<'_>) -> Option<Step>
+    ensures { result ≡ of_words words.now.n 4 (proposer_by (number_of (word_at words.now 1)) (number_of (word_at words.now 2)) (list_word (word_at words.now 3))) }
+{
+    if words.n != 4 || !is_list(words.word(3)) {
+        return None;
+    }
+    let places = read_number(words.word(1))?;
+    let timeout = read_number(words.word(2))?;
+    Some(Step::Proposer(places as usize, timeout))
+}
+
+fn read_lend(words: &Words<'_>) -> Option<Step>
+    ensures { result ≡ of_words words.now.n 4 (lend_by (number_of (word_at words.now 1)) (number_of (word_at words.now 2)) (number_of (word_at words.now 3))) }
 {
     if words.n != 4 {
-        return Step::Unreadable;
+        return None;
     }
-    let Number::Good(places) = read_number(word(line, words, 1)) else {
-        return Step::Unreadable;
-    };
-    let Number::Good(timeout) = read_number(word(line, words, 2)) else {
-        return Step::Unreadable;
-    };
-    if !is_list(word(line, words, 3)) {
-        return Step::Unreadable;
-    }
-    Step::Proposer(places as usize, timeout)
+    Some(Step::Lend {
+        registers: read_number(words.word(1))? as usize,
+        bytes: read_number(words.word(2))? as usize,
+        area: read_number(words.word(3))? as usize,
+    })
 }
 
-fn read_clock(line: &[u8], words: Words) -> Step
-    ensures { result ≡ of_words words.n 2 (clock_by (number_of (word_at line.now words 1))) }
+fn read_poke(words: &Words<'_>) -> Option<Step>
+    ensures { result ≡ of_words words.now.n 3 (poke_by (number_of (word_at words.now 1)) (bytes_word (word_at words.now 2))) }
 {
-    if words.n != 2 {
-        return Step::Unreadable;
+    if words.n != 3 || !is_bytes(words.word(2)) {
+        return None;
     }
-    let Number::Good(time) = read_number(word(line, words, 1)) else {
-        return Step::Unreadable;
-    };
-    Step::Clock(time)
+    Some(Step::Poke(read_number(words.word(1))? as usize))
 }
 
-fn read_lend(line: &[u8], words: Words) -> Step
-    ensures { result ≡ of_words words.n 4 (lend_by (number_of (word_at line.now words 1)) (number_of (word_at line.now words 2)) (number_of (word_at line.now words 3))) }
+#[tactic(auto, unfolding(crate::specs::Steps::step_in, crate::specs::Steps::lent_in))]
+fn read_step(words: &Words<'_>) -> Option<Step>
+    ensures { result ≡ step_in (word_at words.now) words.now.n }
 {
-    if words.n != 4 {
-        return Step::Unreadable;
-    }
-    let Number::Good(registers) = read_number(word(line, words, 1)) else {
-        return Step::Unreadable;
-    };
-    let Number::Good(bytes) = read_number(word(line, words, 2)) else {
-        return Step::Unreadable;
-    };
-    let Number::Good(area) = read_number(word(line, words, 3)) else {
-        return Step::Unreadable;
-    };
-    Step::Lend {
-        registers: registers as usize,
-        bytes: bytes as usize,
-        area: area as usize,
-    }
-}
-
-fn read_poke(line: &[u8], words: Words) -> Step
-    ensures { result ≡ of_words words.n 3 (poke_by (number_of (word_at line.now words 1)) (bytes_word (word_at line.now words 2))) }
-{
-    if words.n != 3 {
-        return Step::Unreadable;
-    }
-    let Number::Good(at) = read_number(word(line, words, 1)) else {
-        return Step::Unreadable;
-    };
-    if !is_bytes(word(line, words, 2)) {
-        return Step::Unreadable;
-    }
-    Step::Poke(at as usize)
-}
-
-fn read_tick(line: &[u8], words: Words) -> Step
-    ensures { result ≡ of_words words.n 2 (tick_by (number_of (word_at line.now words 1))) }
-{
-    if words.n != 2 {
-        return Step::Unreadable;
-    }
-    let Number::Good(time) = read_number(word(line, words, 1)) else {
-        return Step::Unreadable;
-    };
-    Step::Tick(time)
-}
-
-// `table` and `area` stand alone.
-fn read_alone(words: Words, step: Step) -> Step
-    ensures { result ≡ of_words words.n 1 step }
-{
-    if words.n != 1 {
-        return Step::Unreadable;
-    }
-    step
-}
-
-fn read_sent(line: &[u8], words: Words) -> Step
-    ensures { result ≡ sent_by (address_of (word_at line.now words 0)) (message_in (word_at line.now words) words.n) }
-{
-    let Sender::Good(from) = read_address(word(line, words, 0)) else {
-        return Step::Unreadable;
-    };
-    let Message::Good(rpc) = read_message(line, words) else {
-        return Step::Unreadable;
-    };
-    Step::Message(from, rpc)
-}
-
-// A step on the lent table and answer area, by its name, or a message.
-fn read_lent(line: &[u8], words: Words, name: &[u8]) -> Step
-    ensures { result ≡ lent_in name.now (word_at line.now words) words.n }
-{
-    if same(name, b"lend") {
-        return read_lend(line, words);
-    }
-    if same(name, b"poke") {
-        return read_poke(line, words);
-    }
-    if same(name, b"table") {
-        return read_alone(words, Step::Table);
-    }
-    if same(name, b"area") {
-        return read_alone(words, Step::Area);
-    }
-    read_sent(line, words)
-}
-
-fn read_step(line: &[u8], words: Words) -> Step
-    ensures { result ≡ step_in (word_at line.now words) words.n }
-{
-    let name = word(line, words, 0);
+    let name = words.word(0);
     if same(name, b"tick") {
-        return read_tick(line, words);
+        return Some(Step::Tick(read_lone(words)?));
     }
     if same(name, b"acceptor") {
-        return read_acceptor(line, words);
+        return Some(Step::Acceptor(read_lone(words)? as usize));
     }
     if same(name, b"proposer") {
-        return read_proposer(line, words);
+        return read_proposer(words);
     }
     if same(name, b"clock") {
-        return read_clock(line, words);
+        return Some(Step::Clock(read_lone(words)?));
     }
-    read_lent(line, words, name)
+    if same(name, b"lend") {
+        return read_lend(words);
+    }
+    if same(name, b"poke") {
+        return read_poke(words);
+    }
+    if same(name, b"table") {
+        return (words.n == 1).then_some(Step::Table);
+    }
+    if same(name, b"area") {
+        return (words.n == 1).then_some(Step::Area);
+    }
+    let from = read_address(name)?;
+    let rpc = read_message(words)?;
+    Some(Step::Message(from, rpc))
 }
 
 fn step_places(step: Step) -> Places
     ensures { result ≡ step_words step }
 {
     match step {
-        Step::Pass => no_places(),
-        Step::Acceptor(_) => no_places(),
-        Step::Proposer(_, _) => start_places(),
-        Step::Clock(_) => no_places(),
-        Step::Lend {
-            registers: _,
-            bytes: _,
-            area: _,
-        } => no_places(),
-        Step::Poke(_) => poke_places(),
-        Step::Table => no_places(),
-        Step::Area => no_places(),
-        Step::Tick(_) => no_places(),
+        Step::Proposer(_, _) => Places {
+            list: Some(3),
+            ..Places::NONE
+        },
+        Step::Poke(_) => Places {
+            value: Some(2),
+            ..Places::NONE
+        },
         Step::Message(_, rpc) => places_of(rpc),
-        Step::Unreadable => no_places(),
+        _ => Places::NONE,
+    }
+}
+
+// The word at a place; the empty word where there is no place.
+fn word_in<'a>(words: &Words<'a>, place: Option<usize>) -> &'a [u8]
+    ensures { result.now ≡ word_in (word_at words.now) place }
+{
+    match place {
+        Some(i) => words.word(i),
+        None => b"",
     }
 }
 
 // Whether a line is no step: empty, or a remark.
+#[tactic(auto, unfolding(crate::specs::Read::is_passed))]
 fn is_passed(line: &[u8]) -> bool
     ensures { result ≡ is_passed line.now }
 {
-    if line.len() == 0 {
-        return true;
+    matches!(line, [] | [b'#', ..])
+}
+
+// The step of a line with these words.
+fn step_of(line: &[u8], words: &Words<'_>) -> Step
+    ensures { result ≡ cond (is_passed line.now) Step.Pass (unwrap_or (step_in (word_at words.now) words.now.n) Step.Unreadable) }
+{
+    if is_passed(line) {
+        return Step::Pass;
     }
-    line[0] == b'#'
+    read_step(words).unwrap_or(Step::Unreadable)
 }
 
 // A line's step, and its bytes and numbers at the fronts of the lent buffers.
 pub fn read(line: &[u8], bytes: &mut [u8], list: &mut [u16]) -> Line
     ensures { Read line.now bytes.old list.old result bytes.new list.new }
 {
-    if is_passed(line) {
-        return Line {
-            step: Step::Pass,
-            key: 0,
-            value: 0,
-            other: 0,
-            list: 0,
-        };
-    }
     let words = split(line);
-    let step = read_step(line, words);
+    let step = step_of(line, &words);
     let places = step_places(step);
-    let key = unhex(word(line, words, places.key), bytes, 0);
-    let value = unhex(word(line, words, places.value), bytes, key);
-    let other = unhex(word(line, words, places.other), bytes, value);
-    let n = read_list(word(line, words, places.list), list);
+    let key = unhex(word_in(&words, places.key), bytes, 0);
+    let value = unhex(word_in(&words, places.value), bytes, key);
+    let other = unhex(word_in(&words, places.other), bytes, value);
+    let n = read_list(word_in(&words, places.list), list);
     Line {
         step,
         key,

@@ -1,6 +1,7 @@
 -- How many bytes stand before the zeros at the end: none in a row of zeros, and some in any other.
 -- Assumes nothing.
-use mathlib.Core.Path.{◌≡◌, refl}
+use Rattle.std.proofs.Common.{◌≤◌, length, take, length-take-le}
+use mathlib.Core.Path.{◌≡◌, refl, sym, ap, ◌∙◌}
 use mathlib.Core.Bool.{Bool, true, false, cond, and-false}
 use mathlib.Core.List.{List, [], ◌∷◌}
 use Prim.Native.Nat.{ℕ, zero, suc}
@@ -38,3 +39,20 @@ not_true false l e h = refl
 
 pub some_kept : (l : List ℕ) → (kept_of l ≡ 0 → ⊥) → all_zero l ≡ false
 some_kept l h = not_true (all_zero l) l refl h
+
+-- no more than there are
+pub within : (l : List ℕ) → kept_of l ≤ length l
+unfolding kept_of
+within [] = omega arith
+within (x ∷ l) = by_test (all_zero (x ∷ l)) (within l)
+  where
+    by_test : (t : Bool) → kept_of l ≤ length l → cond t 0 (suc (kept_of l)) ≤ suc (length l)
+    by_test true h = omega arith
+    by_test false h = omega arith
+
+-- what is kept is none of the bytes only in a row of zeros
+pub nothing_kept : (l k : List ℕ) → k ≡ take (kept_of l) l → length k ≡ 0 → all_zero l ≡ true
+nothing_kept l k e h = none_kept l (sym (length-take-le (kept_of l) l (within l)) ∙ sym (ap length e) ∙ h)
+
+pub something_kept : (l k : List ℕ) → k ≡ take (kept_of l) l → (length k ≡ 0 → ⊥) → all_zero l ≡ false
+something_kept l k e h = some_kept l (λ z. h (ap length e ∙ length-take-le (kept_of l) l (within l) ∙ z))

@@ -5,7 +5,7 @@ use Rattle.std.specs.Prelude.{Option, None, Some}
 use Rattle.leaf_fields.specs.Fields.{from_le, part, all_zero}
 use Rattle.messages.specs.declared.answer.Answer.{Answer}
 use Rattle.messages.specs.declared.answer.Refusal.{Refusal}
-use Rattle.messages.specs.Message.{Value, Request, Failure, Result, Reply, Message, message_of}
+use Rattle.messages.specs.Message.{Value, Request, Failure, Verdict, Reply, Message, message_of}
 use Rattle.messages.specs.Refusals.{number}
 use Rattle.messages.specs.Answers.{Row, Told, nothing, one, each, timeouts, refused, key_at, entries_at, rows_at, row_bytes}
 use Rattle.script_words.specs.Letters.{letters}
@@ -45,9 +45,9 @@ failure_text (Failure.AcceptRejected b) = letters " AcceptRejected" ++ spaced b.
 failure_text (Failure.CasFailed v) = letters " CasFailed" ++ option_text v
 failure_text Failure.Timeout = letters " Timeout"
 
-abbrev pub result_text : Result → List ℕ
-result_text Result.Ok = letters " Ok"
-result_text (Result.Err e) = letters " Err" ++ failure_text e
+abbrev pub result_text : Verdict → List ℕ
+result_text Verdict.Granted = letters " Ok"
+result_text (Verdict.Denied e) = letters " Err" ++ failure_text e
 
 abbrev pub reply_text : Reply → List ℕ
 reply_text (Reply.Done v) = letters " Ok" ++ option_text v

@@ -1,18 +1,16 @@
 -- The answers of the two examples in docs/SCRIPT.md, and a line of each other kind, computed from the definitions.
 -- Assumes nothing.
-use Rattle.std.specs.Prelude.{◌≡◌, refl, List, [], ◌∷◌, ℕ, replicate}
+use Rattle.std.specs.Prelude.{◌≡◌, refl, List, [], ◌∷◌, ℕ, replicate, None, Ok, Err}
 use Rattle.std.specs.Prelude.{Some}
 use Rattle.leaf_fields.specs.Fields.{from_le, to_le, all_zero}
 use Rattle.messages.specs.declared.Address.{Address}
 use Rattle.messages.specs.declared.Ballot.{Ballot}
-use Rattle.messages.specs.declared.OptionValue.{OptionValue}
+use Rattle.messages.specs.declared.Lent.{Lent}
 use Rattle.messages.specs.declared.Error.{Error}
-use Rattle.messages.specs.declared.Res.{Res}
-use Rattle.messages.specs.declared.Response.{Response}
 use Rattle.messages.specs.declared.Rpc.{Rpc}
 use Rattle.messages.specs.declared.answer.Answer.{Answer}
 use Rattle.messages.specs.declared.answer.Refusal.{Refusal}
-use Rattle.messages.specs.Message.{Message}
+use Rattle.messages.specs.Message.{Message, lent}
 use Rattle.messages.specs.Answers.{Told, each, timeouts, entries, rows, entry_bytes, rows_bytes, answer_of, written_in}
 use Rattle.script_words.specs.Letters.{letters}
 use Rattle.script_words.specs.Written.{hex_of, digits_before, decimal}
@@ -35,15 +33,15 @@ abbrev key : List ℕ
 key = 107 ∷ []
 
 pub record Samples : Type 0 where
-  pub promise : answer_line (Answer.Message (address 7) (Rpc.ProposeRes (ballot 1) (ballot 0) OptionValue.None Res.Ok) 0) [] ≡ letters "to 7 ProposeRes 1 0 none Ok\n"
-  pub acceptance : answer_line (Answer.Message (address 7) (Rpc.AcceptRes (ballot 1) Res.Ok) 0) [] ≡ letters "to 7 AcceptRes 1 Ok\n"
-  pub rejection : answer_line (Answer.Message (address 8) (Rpc.ProposeRes (ballot 1) (ballot 1) OptionValue.Some (Res.Err (Error.ProposalRejected (ballot 1)))) 2) (65 ∷ 66 ∷ []) ≡ letters "to 8 ProposeRes 1 1 x4142 Err ProposalRejected 1\n"
+  pub promise : answer_line (Answer.Message (address 7) (Rpc.ProposeRes (ballot 1) (ballot 0) None (Ok tt)) 0) [] ≡ letters "to 7 ProposeRes 1 0 none Ok\n"
+  pub acceptance : answer_line (Answer.Message (address 7) (Rpc.AcceptRes (ballot 1) (Ok tt)) 0) [] ≡ letters "to 7 AcceptRes 1 Ok\n"
+  pub rejection : answer_line (Answer.Message (address 8) (Rpc.ProposeRes (ballot 1) (ballot 1) (Some lent) (Err (Error.ProposalRejected (ballot 1)))) 2) (65 ∷ 66 ∷ []) ≡ letters "to 8 ProposeRes 1 1 x4142 Err ProposalRejected 1\n"
   pub no_room : answer_line (Answer.Refused Refusal.NoRoom) [] ≡ letters "refused 11 NoRoom\n"
   pub over_limit : answer_line (Answer.Refused Refusal.OverLimit) [] ≡ letters "refused 4 OverLimit\n"
   pub nothing_said : answer_line Answer.Nothing [] ≡ letters "nothing\n"
   pub proposals : line (each three (Message.ProposeReq (ballot 1) key)) ≡ letters "each 1,2,3 ProposeReq 1 x6b\n"
   pub accepts : line (each three (Message.AcceptReq (ballot 1) key (Some (65 ∷ [])))) ≡ letters "each 1,2,3 AcceptReq 1 x6b x41\n"
-  pub response : answer_line (Answer.Message (address 9) (Rpc.ClientResponse 1 (Response.Ok OptionValue.Some)) 1) (65 ∷ []) ≡ letters "to 9 ClientResponse 1 Ok x41\n"
+  pub response : answer_line (Answer.Message (address 9) (Rpc.ClientResponse 1 (Ok (Some lent))) 1) (65 ∷ []) ≡ letters "to 9 ClientResponse 1 Ok x41\n"
   pub over_time : line (timeouts (record { client = address 9; id = 1234567890 } ∷ record { client = address 10; id = 0 } ∷ [])) ≡ letters "timeouts 9:1234567890 10:0\n"
   pub area : area_line (10 ∷ 0 ∷ 255 ∷ 0 ∷ 0 ∷ []) ≡ letters "area 0a00ff\n"
   pub block : block_line 12 (1 ∷ 0 ∷ []) ≡ letters "block 12 01\n"

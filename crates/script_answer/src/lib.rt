@@ -1,5 +1,5 @@
-// Answers and lent areas as lines of a script's output (docs/SCRIPT.md), put into a lent buffer; what doesn't fit there is left out.
-#![tactic(auto)]
+// Answers and lent areas as lines of a script's output (docs/SCRIPT.md); what doesn't fit there is left out.
+#![tactic(auto, using(script_words::specs::WrittenLaws::joined), unfolding(crate::specs::Lines::area_line, crate::specs::Lines::answer_line))]
 
 mod answer;
 mod message;

@@ -1,8 +1,9 @@
-// A message in the words of a script. Its bytes are lent beside it, as messages/specs/Message.antt says.
-ghost use Rattle.std.specs.Prelude.{[], ◌++◌};
+// A message in the words of a script. Its bytes are lent beside it, as messages/specs/Message.antt says; so there is no `Display`, whose `fmt`
+// takes the message alone.
+ghost use Rattle.std.specs.Prelude.{◌≡◌, [], ◌++◌, Err};
 ghost use Rattle.messages.specs.Message.{given, failure_of, result_of, response_of, request_of, message_of};
 ghost use Rattle.script_words.specs.Letters.{letters};
-ghost use Rattle.script_words.specs.Written.{Put};
+ghost use Rattle.script_words.specs.Written.{put};
 ghost use Rattle.script_answer.specs.Lines.{
   spaced,
   bytes_text,
@@ -14,127 +15,131 @@ ghost use Rattle.script_answer.specs.Lines.{
   message_text,
 };
 
-use messages::{Error, OptionValue, Req, Res, Response, Rpc};
-use script_words::{put_hex, put_number, put_text};
+use messages::{Error, Lent, Req, Rpc};
+use script_words::Output;
 
 // A space, and bytes as a script has them.
-fn put_bytes(out: &mut [u8], at: usize, bytes: &[u8]) -> usize
-    ensures { Put out.old at (bytes_text bytes.now) result out.new }
+fn put_bytes<const N: usize>(out: &mut Output<N>, bytes: &[u8])
+    ensures { out.new ≡ put N out.old (bytes_text bytes.now) }
 {
-    let p = put_text(out, at, b" x");
-    put_hex(out, p, bytes)
+    out.put_text(b" x");
+    out.put_hex(bytes)
 }
 
 // A space, and a number.
-pub fn put_spaced(out: &mut [u8], at: usize, n: u64) -> usize
-    ensures { Put out.old at (spaced n) result out.new }
+pub fn put_spaced<const N: usize>(out: &mut Output<N>, n: u64)
+    ensures { out.new ≡ put N out.old (spaced n) }
 {
-    let p = put_text(out, at, b" ");
-    put_number(out, p, n)
+    out.put_text(b" ");
+    out.put_number(n)
 }
 
 // A name and a number: an address, a request's id or a ballot.
-pub fn put_numbered(out: &mut [u8], at: usize, name: &[u8], n: u64) -> usize
-    ensures { Put out.old at (name.now ++ spaced n) result out.new }
+pub fn put_numbered<const N: usize>(out: &mut Output<N>, name: &[u8], n: u64)
+    ensures { out.new ≡ put N out.old (name.now ++ spaced n) }
 {
-    let p = put_text(out, at, name);
-    put_spaced(out, p, n)
+    out.put_text(name);
+    put_spaced(out, n)
 }
 
-fn put_keyed(out: &mut [u8], at: usize, name: &[u8], key: &[u8]) -> usize
-    ensures { Put out.old at (name.now ++ bytes_text key.now) result out.new }
+fn put_keyed<const N: usize>(out: &mut Output<N>, name: &[u8], key: &[u8])
+    ensures { out.new ≡ put N out.old (name.now ++ bytes_text key.now) }
 {
-    let p = put_text(out, at, name);
-    put_bytes(out, p, key)
+    out.put_text(name);
+    put_bytes(out, key)
 }
 
-fn put_option(out: &mut [u8], at: usize, o: OptionValue, value: &[u8]) -> usize
-    ensures { Put out.old at (option_text (given o value.now)) result out.new }
+fn put_option<const N: usize>(out: &mut Output<N>, o: Option<Lent>, value: &[u8])
+    ensures { out.new ≡ put N out.old (option_text (given o value.now)) }
 {
     match o {
-        OptionValue::None => put_text(out, at, b" none"),
-        OptionValue::Some => put_bytes(out, at, value),
+        None => out.put_text(b" none"),
+        Some(_) => put_bytes(out, value),
     }
 }
 
-fn put_error(out: &mut [u8], at: usize, e: Error, value: &[u8]) -> usize
-    ensures { Put out.old at (letters " Err" ++ failure_text (failure_of e value.now)) result out.new }
+fn put_error<const N: usize>(out: &mut Output<N>, e: Error, value: &[u8])
+    ensures { out.new ≡ put N out.old (letters " Err" ++ failure_text (failure_of e value.now)) }
 {
     match e {
-        Error::ProposalRejected { last } => put_numbered(out, at, b" Err ProposalRejected", last.0),
-        Error::AcceptRejected { last } => put_numbered(out, at, b" Err AcceptRejected", last.0),
+        Error::ProposalRejected { last } => put_numbered(out, b" Err ProposalRejected", last.0),
+        Error::AcceptRejected { last } => put_numbered(out, b" Err AcceptRejected", last.0),
         Error::CasFailed(o) => {
-            let p = put_text(out, at, b" Err CasFailed");
-            put_option(out, p, o, value)
+            out.put_text(b" Err CasFailed");
+            put_option(out, o, value)
         }
-        Error::Timeout => put_text(out, at, b" Err Timeout"),
+        Error::Timeout => out.put_text(b" Err Timeout"),
     }
 }
 
-fn put_res(out: &mut [u8], at: usize, res: Res, other: &[u8]) -> usize
-    ensures { Put out.old at (result_text (result_of res other.now)) result out.new }
+fn put_res<const N: usize>(out: &mut Output<N>, res: Result<(), Error>, other: &[u8])
+    ensures { out.new ≡ put N out.old (result_text (result_of res other.now)) }
 {
     match res {
-        Res::Ok => put_text(out, at, b" Ok"),
-        Res::Err(e) => put_error(out, at, e, other),
+        Ok(_) => out.put_text(b" Ok"),
+        Err(e) => put_error(out, e, other),
     }
 }
 
-fn put_response(out: &mut [u8], at: usize, response: Response, value: &[u8], other: &[u8]) -> usize
-    ensures { Put out.old at (reply_text (response_of response value.now other.now)) result out.new }
+fn put_response<const N: usize>(
+    out: &mut Output<N>,
+    response: Result<Option<Lent>, Error>,
+    value: &[u8],
+    other: &[u8],
+)
+    ensures { out.new ≡ put N out.old (reply_text (response_of response value.now other.now)) }
 {
     match response {
-        Response::Ok(o) => {
-            let p = put_text(out, at, b" Ok");
-            put_option(out, p, o, value)
+        Ok(o) => {
+            out.put_text(b" Ok");
+            put_option(out, o, value)
         }
-        Response::Err(e) => put_error(out, at, e, other),
+        Err(e) => put_error(out, e, other),
     }
 }
 
-fn put_req(out: &mut [u8], at: usize, req: Req, key: &[u8], value: &[u8], other: &[u8]) -> usize
-    ensures { Put out.old at (request_text (request_of req key.now value.now other.now)) result out.new }
+fn put_req<const N: usize>(out: &mut Output<N>, req: Req, key: &[u8], value: &[u8], other: &[u8])
+    ensures { out.new ≡ put N out.old (request_text (request_of req key.now value.now other.now)) }
 {
     match req {
-        Req::Get => put_keyed(out, at, b" Get", key),
-        Req::Del => put_keyed(out, at, b" Del", key),
+        Req::Get => put_keyed(out, b" Get", key),
+        Req::Del => put_keyed(out, b" Del", key),
         Req::Set => {
-            let p = put_keyed(out, at, b" Set", key);
-            put_bytes(out, p, value)
+            put_keyed(out, b" Set", key);
+            put_bytes(out, value)
         }
         Req::Cas { old, new } => {
-            let p = put_keyed(out, at, b" Cas", key);
-            let q = put_option(out, p, old, value);
-            put_option(out, q, new, other)
+            put_keyed(out, b" Cas", key);
+            put_option(out, old, value);
+            put_option(out, new, other)
         }
     }
 }
 
 // A list is not part of an answer, so the two messages with one have an empty one.
-pub fn put_message(
-    out: &mut [u8],
-    at: usize,
+pub fn put_message<const N: usize>(
+    out: &mut Output<N>,
     rpc: Rpc,
     key: &[u8],
     value: &[u8],
     other: &[u8],
-) -> usize
-    ensures { Put out.old at (message_text (message_of rpc key.now value.now other.now [])) result out.new }
+)
+    ensures { out.new ≡ put N out.old (message_text (message_of rpc key.now value.now other.now [])) }
 {
     match rpc {
         Rpc::ClientRequest(id, req) => {
-            let p = put_numbered(out, at, b"ClientRequest", id);
-            put_req(out, p, req, key, value, other)
+            put_numbered(out, b"ClientRequest", id);
+            put_req(out, req, key, value, other)
         }
         Rpc::ClientResponse(id, response) => {
-            let p = put_numbered(out, at, b"ClientResponse", id);
-            put_response(out, p, response, value, other)
+            put_numbered(out, b"ClientResponse", id);
+            put_response(out, response, value, other)
         }
-        Rpc::SetAcceptAcceptors => put_text(out, at, b"SetAcceptAcceptors -"),
-        Rpc::SetProposeAcceptors => put_text(out, at, b"SetProposeAcceptors -"),
+        Rpc::SetAcceptAcceptors => out.put_text(b"SetAcceptAcceptors -"),
+        Rpc::SetProposeAcceptors => out.put_text(b"SetProposeAcceptors -"),
         Rpc::ProposeReq(ballot) => {
-            let p = put_numbered(out, at, b"ProposeReq", ballot.0);
-            put_bytes(out, p, key)
+            put_numbered(out, b"ProposeReq", ballot.0);
+            put_bytes(out, key)
         }
         Rpc::ProposeRes {
             req_ballot,
@@ -142,19 +147,19 @@ pub fn put_message(
             last_accepted_value,
             res,
         } => {
-            let p = put_numbered(out, at, b"ProposeRes", req_ballot.0);
-            let q = put_spaced(out, p, last_accepted_ballot.0);
-            let r = put_option(out, q, last_accepted_value, value);
-            put_res(out, r, res, other)
+            put_numbered(out, b"ProposeRes", req_ballot.0);
+            put_spaced(out, last_accepted_ballot.0);
+            put_option(out, last_accepted_value, value);
+            put_res(out, res, other)
         }
         Rpc::AcceptReq(ballot, o) => {
-            let p = put_numbered(out, at, b"AcceptReq", ballot.0);
-            let q = put_bytes(out, p, key);
-            put_option(out, q, o, value)
+            put_numbered(out, b"AcceptReq", ballot.0);
+            put_bytes(out, key);
+            put_option(out, o, value)
         }
         Rpc::AcceptRes(ballot, res) => {
-            let p = put_numbered(out, at, b"AcceptRes", ballot.0);
-            put_res(out, p, res, other)
+            put_numbered(out, b"AcceptRes", ballot.0);
+            put_res(out, res, other)
         }
     }
 }

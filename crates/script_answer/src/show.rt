@@ -1,45 +1,42 @@
 // The table's blocks and the answer area as lines of text: hex digits, the zeros at the end left out.
-ghost use Rattle.std.specs.Prelude.{◌≡◌, ◌≤◌, length};
-ghost use Rattle.script_words.specs.Written.{Put};
+ghost use Rattle.std.specs.Prelude.{◌≡◌, take};
+ghost use Rattle.script_words.specs.Written.{put};
 ghost use Rattle.script_answer.specs.Lines.{kept_of, area_line, block_line};
 
 use super::message::put_numbered;
-use script_words::{put_byte, put_hex, put_text};
+use script_words::Output;
 
-// How many bytes stand before the zeros at the end.
-fn kept(s: &[u8]) -> usize
-    ensures { (result ≤ length s.now) × (result ≡ kept_of s.now) }
+// The bytes before the zeros at the end.
+fn kept(mut s: &[u8]) -> &[u8]
+    ensures { result.now ≡ take (kept_of s.now) s.now }
 {
-    let mut n = s.len();
-    while 0 < n {
-        if s[n - 1] != 0 {
-            return n;
-        }
-        n -= 1;
+    while let [front @ .., last] = s
+        && *last == 0
+    {
+        s = front;
     }
-    n
+    s
 }
 
 // `area ` and the area's bytes.
-pub fn put_area(out: &mut [u8], at: usize, area: &[u8]) -> usize
-    ensures { Put out.old at (area_line area.now) result out.new }
+pub fn put_area<const N: usize>(out: &mut Output<N>, area: &[u8])
+    ensures { out.new ≡ put N out.old (area_line area.now) }
 {
-    let n = kept(area);
-    let p = put_text(out, at, b"area ");
-    let q = put_hex(out, p, &area[0..n]);
-    put_byte(out, q, b'\n')
+    out.put_text(b"area ");
+    out.put_hex(kept(area));
+    out.put_byte(b'\n');
 }
 
 // `block I ` and the block's bytes; nothing for a block of zeros.
-pub fn put_block(out: &mut [u8], at: usize, i: usize, block: &[u8]) -> usize
-    ensures { Put out.old at (block_line i block.now) result out.new }
+pub fn put_block<const N: usize>(out: &mut Output<N>, i: usize, block: &[u8])
+    ensures { out.new ≡ put N out.old (block_line i block.now) }
 {
-    let n = kept(block);
-    if n == 0 {
-        return put_text(out, at, b"");
+    let kept = kept(block);
+    if kept.is_empty() {
+        return;
     }
-    let p = put_numbered(out, at, b"block", i as u64);
-    let q = put_byte(out, p, b' ');
-    let r = put_hex(out, q, &block[0..n]);
-    put_byte(out, r, b'\n')
+    put_numbered(out, b"block", i as u64);
+    out.put_byte(b' ');
+    out.put_hex(kept);
+    out.put_byte(b'\n');
 }

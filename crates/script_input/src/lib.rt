@@ -15,28 +15,12 @@ pub struct Window {
     pub to: usize,
 }
 
-// Moves what is between two places to the front.
-fn shift(buf: &mut [u8], from: usize, to: usize)
-    requires { (from ≤ to) × (to ≤ length buf.old) }
-    ensures { length buf.new ≡ length buf.old }
-{
-    let n = to - from;
-    let mut i = 0;
-    while i < n {
-        buf[i] = buf[from + i];
-        i += 1;
-    }
-}
-
 // One read behind what is there; how far it reaches then. A read that fails brings nothing, as at the input's end.
 fn read_on<R: Read>(input: &mut R, buf: &mut [u8], to: usize) -> usize
     requires { to ≤ length buf.old }
     ensures { (to ≤ result) × (result ≤ length buf.new) }
 {
-    match input.read(&mut buf[to..]) {
-        Ok(n) => to + n,
-        Err(_) => to,
-    }
+    to + input.read(&mut buf[to..]).unwrap_or(0)
 }
 
 // The line that begins at the front, of which nothing up to `to` is a line end.
@@ -44,18 +28,12 @@ fn long_line<R: Read>(input: &mut R, buf: &mut [u8], to: usize) -> Window
     requires { to ≤ length buf.old }
     ensures { Shows result buf.new }
 {
+    // a `while`, since it goes on by what a read brings
     let mut n = to;
     while n < buf.len() {
         let more = read_on(input, buf, n);
-        if more == n {
-            return Window {
-                from: 0,
-                end: n,
-                to: n,
-            };
-        }
-        let end = script_words::place_of(&buf[0..more], n, b'\n');
-        if end < more {
+        let end = script_words::place_of(&buf[..more], n, b'\n');
+        if end < more || more == n {
             return Window {
                 from: 0,
                 end,
@@ -75,17 +53,14 @@ fn long_line<R: Read>(input: &mut R, buf: &mut [u8], to: usize) -> Window
 pub fn next_line<R: Read>(input: &mut R, buf: &mut [u8], from: usize, to: usize) -> Window
     ensures { Shows result buf.new }
 {
-    if buf.len() < to {
+    if buf.len() < to || to < from {
         return long_line(input, buf, 0);
     }
-    if to < from {
-        return long_line(input, buf, 0);
-    }
-    let end = script_words::place_of(&buf[0..to], from, b'\n');
+    let end = script_words::place_of(&buf[..to], from, b'\n');
     if end < to {
         return Window { from, end, to };
     }
-    shift(buf, from, to);
+    buf.copy_within(from..to, 0);
     long_line(input, buf, to - from)
 }
 
@@ -93,8 +68,5 @@ pub fn next_line<R: Read>(input: &mut R, buf: &mut [u8], from: usize, to: usize)
 pub fn after(end: usize, to: usize) -> usize
     ensures { result ≡ min (end + 1) to }
 {
-    if end < to {
-        return end + 1;
-    }
-    to
+    end.saturating_add(1).min(to)
 }

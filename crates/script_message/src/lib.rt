@@ -4,5 +4,5 @@
 mod message;
 mod places;
 
-pub use message::{Message, read_message};
-pub use places::{Places, no_places, places_of, poke_places, start_places};
+pub use message::read_message;
+pub use places::{Places, places_of};

@@ -1,4 +1,5 @@
-// A message's words: which message they are. Its bytes are checked here and stored by `read`.
+// A message's words: which message they are. Its bytes are checked here and stored by `read`. Names go through `same`: `==` compares no slice
+// with a byte string, and behind the arms of a match on byte strings the other names stay open (`returns-in_default`).
 ghost use Rattle.std.specs.Prelude.{◌≡◌, ◌<◌};
 ghost use Rattle.script_words.specs.Text.{number_of};
 ghost use Rattle.script_words.specs.Split.{word_at};
@@ -10,329 +11,210 @@ ghost use Rattle.script_message.specs.Messages.{
   replied_in,
   cas_in,
   asked_in,
-  request_by,
-  response_by,
   propose_req_in,
   propose_res_in,
   accept_req_in,
-  accept_res_in,
   list_in,
   numbered_in,
   message_in,
 };
 
 use leaf_fields::same;
-use messages::{Ballot, Error, OptionValue, Req, Res, Response, Rpc};
-use script_words::{Number, Words, is_bytes, is_list, read_number, word};
-
-#[derive(Clone, Copy)]
-pub enum Given {
-    Bad,
-    Good(OptionValue),
-}
-
-#[derive(Clone, Copy)]
-pub enum Failure {
-    Bad,
-    Good(Error),
-}
-
-#[derive(Clone, Copy)]
-pub enum Asked {
-    Bad,
-    Good(Req),
-}
-
-#[derive(Clone, Copy)]
-pub enum Replied {
-    Bad,
-    Good(Response),
-}
-
-#[derive(Clone, Copy)]
-pub enum Result {
-    Bad,
-    Good(Res),
-}
-
-#[derive(Clone, Copy)]
-pub enum Message {
-    Bad,
-    Good(Rpc),
-}
+use messages::{Ballot, Error, Lent, Req, Rpc};
+use script_words::{Words, is_bytes, is_list, read_number};
 
 // A value that may be missing: `none` or bytes.
-fn read_option(word: &[u8]) -> Given
+#[tactic(auto, unfolding(crate::specs::Messages::given_by))]
+fn read_option(word: &[u8]) -> Option<Option<Lent>>
     ensures { result ≡ given_by word.now }
 {
     if same(word, b"none") {
-        return Given::Good(OptionValue::None);
+        return Some(None);
     }
-    if is_bytes(word) {
-        return Given::Good(OptionValue::Some);
-    }
-    Given::Bad
+    is_bytes(word).then_some(Some(Lent))
 }
 
 // The error with a ballot, from the ballot's word.
-fn read_rejection(name: &[u8], ballot: &[u8]) -> Failure
+#[tactic(auto, unfolding(crate::specs::Messages::rejection_by))]
+fn read_rejection(name: &[u8], ballot: &[u8]) -> Option<Error>
     ensures { result ≡ rejection_by name.now (number_of ballot.now) }
 {
-    let Number::Good(n) = read_number(ballot) else {
-        return Failure::Bad;
-    };
-    let last = Ballot(n);
+    let last = Ballot(read_number(ballot)?);
     if same(name, b"ProposalRejected") {
-        return Failure::Good(Error::ProposalRejected { last });
+        return Some(Error::ProposalRejected { last });
     }
-    if same(name, b"AcceptRejected") {
-        return Failure::Good(Error::AcceptRejected { last });
-    }
-    Failure::Bad
+    same(name, b"AcceptRejected").then_some(Error::AcceptRejected { last })
 }
 
 // An error at word i, which ends the line.
-fn read_error(line: &[u8], words: Words, i: usize) -> Failure
+#[tactic(auto, unfolding(crate::specs::Messages::failure_in))]
+fn read_error(words: &Words<'_>, i: usize) -> Option<Error>
     requires { i < 8 }
-    ensures { result ≡ failure_in (word_at line.now words) words.n i }
+    ensures { result ≡ failure_in (word_at words.now) words.now.n i }
 {
-    let name = word(line, words, i);
+    let name = words.word(i);
     if same(name, b"Timeout") {
-        if words.n != i + 1 {
-            return Failure::Bad;
-        }
-        return Failure::Good(Error::Timeout);
+        return (words.n == i + 1).then_some(Error::Timeout);
     }
     if words.n != i + 2 {
-        return Failure::Bad;
+        return None;
     }
-    let last = word(line, words, i + 1);
+    let last = words.word(i + 1);
     if same(name, b"CasFailed") {
-        let Given::Good(o) = read_option(last) else {
-            return Failure::Bad;
-        };
-        return Failure::Good(Error::CasFailed(o));
+        return Some(Error::CasFailed(read_option(last)?));
     }
     read_rejection(name, last)
 }
 
 // `Ok` or `Err ERROR` at word i, which ends the line.
-fn read_res(line: &[u8], words: Words, i: usize) -> Result
+#[tactic(auto, unfolding(crate::specs::Messages::result_in))]
+fn read_res(words: &Words<'_>, i: usize) -> Option<Result<(), Error>>
     requires { i < 7 }
-    ensures { result ≡ result_in (word_at line.now words) words.n i }
+    ensures { result ≡ result_in (word_at words.now) words.now.n i }
 {
-    let name = word(line, words, i);
+    let name = words.word(i);
     if same(name, b"Ok") {
-        if words.n != i + 1 {
-            return Result::Bad;
-        }
-        return Result::Good(Res::Ok);
+        return (words.n == i + 1).then_some(Ok(()));
     }
-    if !same(name, b"Err") {
-        return Result::Bad;
+    if same(name, b"Err") {
+        return Some(Err(read_error(words, i + 1)?));
     }
-    let Failure::Good(e) = read_error(line, words, i + 1) else {
-        return Result::Bad;
-    };
-    Result::Good(Res::Err(e))
+    None
 }
 
 // `Ok OPT` or `Err ERROR` at word 3.
-fn read_response(line: &[u8], words: Words) -> Replied
-    ensures { result ≡ replied_in (word_at line.now words) words.n }
+#[tactic(auto, unfolding(crate::specs::Messages::replied_in))]
+fn read_response(words: &Words<'_>) -> Option<Result<Option<Lent>, Error>>
+    ensures { result ≡ replied_in (word_at words.now) words.now.n }
 {
-    let name = word(line, words, 3);
+    let name = words.word(3);
     if same(name, b"Ok") {
         if words.n != 5 {
-            return Replied::Bad;
+            return None;
         }
-        let Given::Good(o) = read_option(word(line, words, 4)) else {
-            return Replied::Bad;
-        };
-        return Replied::Good(Response::Ok(o));
+        return Some(Ok(read_option(words.word(4))?));
     }
-    if !same(name, b"Err") {
-        return Replied::Bad;
+    if same(name, b"Err") {
+        return Some(Err(read_error(words, 4)?));
     }
-    let Failure::Good(e) = read_error(line, words, 4) else {
-        return Replied::Bad;
-    };
-    Replied::Good(Response::Err(e))
+    None
 }
 
 // `Cas` with its two values at words 5 and 6.
-fn read_cas(line: &[u8], words: Words) -> Asked
-    ensures { result ≡ cas_in (word_at line.now words) words.n }
+#[tactic(auto, unfolding(crate::specs::Messages::cas_in))]
+fn read_cas(words: &Words<'_>) -> Option<Req>
+    ensures { result ≡ cas_in (word_at words.now) words.now.n }
 {
     if words.n != 7 {
-        return Asked::Bad;
+        return None;
     }
-    let Given::Good(old) = read_option(word(line, words, 5)) else {
-        return Asked::Bad;
-    };
-    let Given::Good(new) = read_option(word(line, words, 6)) else {
-        return Asked::Bad;
-    };
-    Asked::Good(Req::Cas { old, new })
+    let old = read_option(words.word(5))?;
+    let new = read_option(words.word(6))?;
+    Some(Req::Cas { old, new })
 }
 
 // A request from word 3 on, its key at word 4.
-fn read_req(line: &[u8], words: Words) -> Asked
-    ensures { result ≡ asked_in (word_at line.now words) words.n }
+#[tactic(auto, unfolding(crate::specs::Messages::asked_in))]
+fn read_req(words: &Words<'_>) -> Option<Req>
+    ensures { result ≡ asked_in (word_at words.now) words.now.n }
 {
-    let name = word(line, words, 3);
-    if !is_bytes(word(line, words, 4)) {
-        return Asked::Bad;
+    let name = words.word(3);
+    if !is_bytes(words.word(4)) {
+        return None;
     }
     if same(name, b"Cas") {
-        return read_cas(line, words);
+        return read_cas(words);
     }
     if same(name, b"Set") {
-        if words.n != 6 {
-            return Asked::Bad;
-        }
-        if !is_bytes(word(line, words, 5)) {
-            return Asked::Bad;
-        }
-        return Asked::Good(Req::Set);
+        return (words.n == 6 && is_bytes(words.word(5))).then_some(Req::Set);
     }
     if words.n != 5 {
-        return Asked::Bad;
+        return None;
     }
     if same(name, b"Get") {
-        return Asked::Good(Req::Get);
+        return Some(Req::Get);
     }
-    if same(name, b"Del") {
-        return Asked::Good(Req::Del);
-    }
-    Asked::Bad
+    same(name, b"Del").then_some(Req::Del)
 }
 
-fn read_client_request(line: &[u8], words: Words, id: u64) -> Message
-    ensures { result ≡ request_by id (asked_in (word_at line.now words) words.n) }
+#[tactic(auto, unfolding(crate::specs::Messages::propose_req_in))]
+fn read_propose_req(words: &Words<'_>, ballot: Ballot) -> Option<Rpc>
+    ensures { result ≡ propose_req_in (word_at words.now) words.now.n ballot }
 {
-    let Asked::Good(req) = read_req(line, words) else {
-        return Message::Bad;
-    };
-    Message::Good(Rpc::ClientRequest(id, req))
+    (words.n == 4 && is_bytes(words.word(3))).then_some(Rpc::ProposeReq(ballot))
 }
 
-fn read_client_response(line: &[u8], words: Words, id: u64) -> Message
-    ensures { result ≡ response_by id (replied_in (word_at line.now words) words.n) }
+#[tactic(auto, unfolding(crate::specs::Messages::propose_res_in))]
+fn read_propose_res(words: &Words<'_>, ballot: Ballot) -> Option<Rpc>
+    ensures { result ≡ propose_res_in (word_at words.now) words.now.n ballot }
 {
-    let Replied::Good(response) = read_response(line, words) else {
-        return Message::Bad;
-    };
-    Message::Good(Rpc::ClientResponse(id, response))
-}
-
-fn read_propose_req(line: &[u8], words: Words, ballot: Ballot) -> Message
-    ensures { result ≡ propose_req_in (word_at line.now words) words.n ballot }
-{
-    if words.n != 4 {
-        return Message::Bad;
-    }
-    if !is_bytes(word(line, words, 3)) {
-        return Message::Bad;
-    }
-    Message::Good(Rpc::ProposeReq(ballot))
-}
-
-fn read_propose_res(line: &[u8], words: Words, ballot: Ballot) -> Message
-    ensures { result ≡ propose_res_in (word_at line.now words) words.n ballot }
-{
-    let Number::Good(last) = read_number(word(line, words, 3)) else {
-        return Message::Bad;
-    };
-    let Given::Good(o) = read_option(word(line, words, 4)) else {
-        return Message::Bad;
-    };
-    let Result::Good(res) = read_res(line, words, 5) else {
-        return Message::Bad;
-    };
-    Message::Good(Rpc::ProposeRes {
+    let last = read_number(words.word(3))?;
+    let last_accepted_value = read_option(words.word(4))?;
+    let res = read_res(words, 5)?;
+    Some(Rpc::ProposeRes {
         req_ballot: ballot,
         last_accepted_ballot: Ballot(last),
-        last_accepted_value: o,
+        last_accepted_value,
         res,
     })
 }
 
-fn read_accept_req(line: &[u8], words: Words, ballot: Ballot) -> Message
-    ensures { result ≡ accept_req_in (word_at line.now words) words.n ballot }
+#[tactic(auto, unfolding(crate::specs::Messages::accept_req_in))]
+fn read_accept_req(words: &Words<'_>, ballot: Ballot) -> Option<Rpc>
+    ensures { result ≡ accept_req_in (word_at words.now) words.now.n ballot }
 {
-    if words.n != 5 {
-        return Message::Bad;
+    if words.n != 5 || !is_bytes(words.word(3)) {
+        return None;
     }
-    if !is_bytes(word(line, words, 3)) {
-        return Message::Bad;
-    }
-    let Given::Good(o) = read_option(word(line, words, 4)) else {
-        return Message::Bad;
-    };
-    Message::Good(Rpc::AcceptReq(ballot, o))
-}
-
-fn read_accept_res(line: &[u8], words: Words, ballot: Ballot) -> Message
-    ensures { result ≡ accept_res_in (word_at line.now words) words.n ballot }
-{
-    let Result::Good(res) = read_res(line, words, 3) else {
-        return Message::Bad;
-    };
-    Message::Good(Rpc::AcceptRes(ballot, res))
+    Some(Rpc::AcceptReq(ballot, read_option(words.word(4))?))
 }
 
 // One of the two messages with a list.
-fn read_list_message(line: &[u8], words: Words, rpc: Rpc) -> Message
-    ensures { result ≡ list_in (word_at line.now words) words.n rpc }
+#[tactic(auto, unfolding(crate::specs::Messages::list_in))]
+fn read_list_message(words: &Words<'_>, rpc: Rpc) -> Option<Rpc>
+    ensures { result ≡ list_in (word_at words.now) words.now.n rpc }
 {
-    if words.n != 3 {
-        return Message::Bad;
-    }
-    if !is_list(word(line, words, 2)) {
-        return Message::Bad;
-    }
-    Message::Good(rpc)
+    (words.n == 3 && is_list(words.word(2))).then_some(rpc)
 }
 
 // One of the messages whose word 2 is a number: a request's id or a ballot.
-fn read_numbered(line: &[u8], words: Words, name: &[u8], n: u64) -> Message
-    ensures { result ≡ numbered_in name.now (word_at line.now words) words.n n }
+#[tactic(auto, unfolding(crate::specs::Messages::numbered_in))]
+fn read_numbered(words: &Words<'_>, name: &[u8], n: u64) -> Option<Rpc>
+    ensures { result ≡ numbered_in name.now (word_at words.now) words.now.n n }
 {
     if same(name, b"ProposeReq") {
-        return read_propose_req(line, words, Ballot(n));
+        return read_propose_req(words, Ballot(n));
     }
     if same(name, b"AcceptReq") {
-        return read_accept_req(line, words, Ballot(n));
+        return read_accept_req(words, Ballot(n));
     }
     if same(name, b"ProposeRes") {
-        return read_propose_res(line, words, Ballot(n));
+        return read_propose_res(words, Ballot(n));
     }
     if same(name, b"AcceptRes") {
-        return read_accept_res(line, words, Ballot(n));
+        return Some(Rpc::AcceptRes(Ballot(n), read_res(words, 3)?));
     }
     if same(name, b"ClientRequest") {
-        return read_client_request(line, words, n);
+        return Some(Rpc::ClientRequest(n, read_req(words)?));
     }
     if same(name, b"ClientResponse") {
-        return read_client_response(line, words, n);
+        return Some(Rpc::ClientResponse(n, read_response(words)?));
     }
-    Message::Bad
+    None
 }
 
 // The message from word 1 on.
-pub fn read_message(line: &[u8], words: Words) -> Message
-    ensures { result ≡ message_in (word_at line.now words) words.n }
+#[tactic(auto, unfolding(crate::specs::Messages::message_in))]
+pub fn read_message(words: &Words<'_>) -> Option<Rpc>
+    ensures { result ≡ message_in (word_at words.now) words.now.n }
 {
-    let name = word(line, words, 1);
+    let name = words.word(1);
     if same(name, b"SetAcceptAcceptors") {
-        return read_list_message(line, words, Rpc::SetAcceptAcceptors);
+        return read_list_message(words, Rpc::SetAcceptAcceptors);
     }
     if same(name, b"SetProposeAcceptors") {
-        return read_list_message(line, words, Rpc::SetProposeAcceptors);
+        return read_list_message(words, Rpc::SetProposeAcceptors);
     }
-    let Number::Good(n) = read_number(word(line, words, 2)) else {
-        return Message::Bad;
-    };
-    read_numbered(line, words, name, n)
+    let n = read_number(words.word(2))?;
+    read_numbered(words, name, n)
 }

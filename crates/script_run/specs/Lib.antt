@@ -1,3 +1,4 @@
 pub mod Run
+pub mod State
 pub mod Obeyed
 pub mod Laws

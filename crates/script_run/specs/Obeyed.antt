@@ -1,6 +1,6 @@
 -- What each step of a script does (docs/SCRIPT.md): where the run then stands, every byte of the table or area and of the answer area, and the text that it puts out. A message, a tick and a start are the party's own rules on what is lent to it.
 -- Assumes nothing.
-use Rattle.std.specs.Prelude.{◌≡◌, Bool, true, false, not, cond, List, [], ◌++◌, ℕ, zero, suc, ◌+◌, ◌-◌, ◌*◌, ◌≤◌, eqb, ltb, length, take, drop, replicate}
+use Rattle.std.specs.Prelude.{◌≡◌, Bool, true, false, not, ◌&&◌, cond, List, [], ◌++◌, ℕ, zero, suc, ◌+◌, ◌-◌, ◌*◌, eqb, leb, ltb, length, take, drop, replicate, Option, None, Some}
 use Rattle.std.proofs.lemmas.List.Edits.{sets}
 use Rattle.messages.specs.declared.Address.{Address}
 use Rattle.messages.specs.declared.answer.Answer.{Answer}
@@ -15,12 +15,14 @@ use Rattle.proposer_place.specs.Area.{area_bytes}
 use Rattle.proposer_works.specs.Works.{answer_bytes}
 use Rattle.proposer.specs.Contract as Proposer
 use Rattle.script_words.specs.Letters.{letters}
-use Rattle.script_words.specs.Written.{Put, decimal}
+use Rattle.script_words.specs.Written.{put, decimal}
 use Rattle.script_answer.specs.Lines.{answer_line, area_line, block_line}
 use Rattle.script.specs.declared.step.Step.{Step}
 use Rattle.script.specs.Read.{step_of, key_of, value_of, other_of, numbers_of}
+use Rattle.script_run.specs.declared.run.Party.{Party}
 use Rattle.script_run.specs.declared.run.Run.{Run}
-use Rattle.script_run.specs.Run.{put_up_to, timed, lending, reached, cleared, over}
+use Rattle.script_run.specs.Run.{timed, lending, reached, begun, over}
+use Rattle.script_run.specs.State.{State}
 
 -- ---- the outcome of a step
 
@@ -32,6 +34,10 @@ pub record Ran : Type 0 where
 
 abbrev pub ran : Run → List ℕ → List ℕ → List ℕ → Ran
 ran s t a text = record { run = s; table = t; area = a; text = text }
+
+-- the state after a step: its text stands behind what was put out, in room for n bytes
+abbrev pub after : ℕ → State → Ran → State
+after n v o = record { run = o.run; table = o.table; area = o.area; out = put n v.out o.text }
 
 -- the run's last line
 abbrev pub stopped : Run → List ℕ → List ℕ → ℕ → List ℕ → Ran
@@ -46,17 +52,30 @@ lent_back l n x = x ++ drop n l
 
 -- ---- a party
 
+abbrev pub is_started : Option Party → Bool
+is_started None = false
+is_started (Some p) = true
+
+abbrev pub is_proposer : Option Party → Bool
+is_proposer None = false
+is_proposer (Some Party.Acceptor) = false
+is_proposer (Some Party.Proposer) = true
+
+-- a table and an answer area have room for so many bytes
+abbrev pub has_room : List ℕ → List ℕ → ℕ → ℕ → Bool
+has_room t a bytes n = leb bytes (length t) && leb n (length a)
+
 -- a party that is lent a table or area of so many bytes and an answer area of n: all of it zeros
-unfoldable pub fresh_in : Run → List ℕ → List ℕ → ℕ → Bool → ℕ → ℕ → ℕ → Ran
-fresh_in s t a line proposer capacity bytes n =
-    cond (ltb (length t) bytes) (unreadable s t a line)
-    (cond (ltb (length a) n) (unreadable s t a line)
-    (ran (lending (cleared s) proposer capacity bytes n) (lent_back t s.reach (replicate s.reach 0)) (replicate (length a) 0) []))
+unfoldable pub fresh_in : Run → List ℕ → List ℕ → ℕ → Party → ℕ → ℕ → ℕ → Ran
+fresh_in s t a line party capacity bytes n =
+    cond (has_room t a bytes n)
+    (ran (lending (begun s party) capacity bytes n) (lent_back t s.reach (replicate s.reach 0)) (replicate (length a) 0) [])
+    (unreadable s t a line)
 
 -- `acceptor REGISTERS`
 unfoldable pub acceptor_in : Run → List ℕ → List ℕ → ℕ → ℕ → Ran
 acceptor_in s t a line registers =
-    cond (ltb registers_most registers) (unreadable s t a line) (fresh_in s t a line false registers (registers * block_bytes) 256)
+    cond (ltb registers_most registers) (unreadable s t a line) (fresh_in s t a line Party.Acceptor registers (registers * block_bytes) 256)
 
 -- a proposer's start, on the area that it is lent
 abbrev pub started_by : Ran → Proposing.Outcome → Ran
@@ -78,7 +97,7 @@ places_room = 60
 unfoldable pub proposer_in : Run → List ℕ → List ℕ → ℕ → ℕ → ℕ → List ℕ → Ran
 proposer_in s t a line places timeout list =
     cond (ltb places_room places) (unreadable s t a line)
-    (opened_by (fresh_in s t a line true places (area_bytes places) (answer_bytes places)) timeout list)
+    (opened_by (fresh_in s t a line Party.Proposer places (area_bytes places) (answer_bytes places)) timeout list)
 
 -- ---- a message and a tick
 
@@ -113,7 +132,7 @@ heard_in s t a h =
 -- `FROM MESSAGE`
 unfoldable pub message_in : Run → List ℕ → List ℕ → Address → Message → Ran
 message_in s t a from m =
-    heard_in s t a (message_on s.proposer (take s.bytes t) s.capacity (take s.area a) from s.clock m)
+    heard_in s t a (message_on (is_proposer s.party) (take s.bytes t) s.capacity (take s.area a) from s.clock m)
 
 -- a tick at a proposer
 unfoldable pub ticked_in : Run → List ℕ → List ℕ → ℕ → Ran
@@ -122,15 +141,14 @@ ticked_in s t a time =
 
 -- `tick TIME`: an acceptor's is answered with nothing
 unfoldable pub tick_in : Run → List ℕ → List ℕ → ℕ → Ran
-tick_in s t a time = cond s.proposer (ticked_in s t a time) (ran s t a (answer_line Answer.Nothing (take s.area a)))
+tick_in s t a time = cond (is_proposer s.party) (ticked_in s t a time) (ran s t a (answer_line Answer.Nothing (take s.area a)))
 
 -- ---- what is lent
 
 -- `lend CAPACITY BYTES AREA`
 unfoldable pub lend_in : Run → List ℕ → List ℕ → ℕ → ℕ → ℕ → ℕ → Ran
 lend_in s t a line capacity bytes n =
-    cond (ltb (length t) bytes) (unreadable s t a line)
-    (cond (ltb (length a) n) (unreadable s t a line) (ran (lending s s.proposer capacity bytes n) t a []))
+    cond (has_room t a bytes n) (ran (lending s capacity bytes n) t a []) (unreadable s t a line)
 
 -- `poke AT BYTES`
 unfoldable pub poke_in : Run → List ℕ → List ℕ → ℕ → ℕ → List ℕ → Ran
@@ -179,7 +197,7 @@ step_in s t a line Step.Unreadable k v o l = unreadable s t a line
 
 unfoldable pub taken_in : Run → List ℕ → List ℕ → ℕ → Step → List ℕ → List ℕ → List ℕ → List ℕ → Ran
 taken_in s t a line step k v o l =
-    cond (lacks_party step s.started) (stopped s t a line (letters ": no party yet\n")) (step_in s t a line step k v o l)
+    cond (lacks_party step (is_started s.party)) (stopped s t a line (letters ": no party yet\n")) (step_in s t a line step k v o l)
 
 -- the longest line that is read
 abbrev pub line_most : ℕ
@@ -190,17 +208,3 @@ unfoldable pub obeyed : Run → List ℕ → List ℕ → ℕ → List ℕ → R
 obeyed s t a line text =
     cond (ltb line_most (length text)) (unreadable s t a line)
     (taken_in s t a line (step_of text) (key_of text) (value_of text) (other_of text) (numbers_of text))
-
--- ---- the contract of a step
-
--- a run, its table, its answer area and its output: the parts that it lends and writes are within its buffers
-abbrev pub Held : Run → List ℕ → List ℕ → List ℕ → Type 0
-Held s table area out = (s.bytes ≤ length table) × (s.reach ≤ length table) × (s.area ≤ length area) × (s.at ≤ length out)
-
--- the run stands where the outcome says, every byte of the areas is the outcome's, and its text is put behind what stood in the output
-pub record Stepped (s : Run) (out : List ℕ) (o : Ran) (r : Run) (t' a' out' : List ℕ) : Type 0 where
-  pub run : r ≡ put_up_to o.run r.at
-  pub table : t' ≡ o.table
-  pub area : a' ≡ o.area
-  pub put : Put out s.at o.text r.at out'
-  pub held : Held r t' a' out'

@@ -1,119 +1,148 @@
-// A run of a script (docs/SCRIPT.md): what is lent to its party, and one line after the other on it. Nothing but the lent buffers is read or
-// written.
-#![tactic(auto)]
+// A run of a script (docs/SCRIPT.md): what is lent to its party, and one line after the other on it. Nothing but the run's own buffers is
+// read or written.
+#![tactic(auto, using(script_words::specs::WrittenLaws::put_nothing), unfolding(crate::specs::Obeyed::taken_in, crate::specs::Obeyed::obeyed))]
 
 mod party;
 mod run;
 mod show;
 mod start;
 
-ghost use Rattle.std.specs.Prelude.{◌≡◌, ◌≤◌, length};
-ghost use Rattle.script_run.specs.Obeyed.{lacks_party, taken_in, obeyed, Held, Stepped};
+ghost use Rattle.std.specs.Prelude.{◌≡◌, [], replicate};
+ghost use Rattle.script_run.specs.Run.{fresh};
+ghost use Rattle.script_run.specs.State.{state};
+ghost use Rattle.script_run.specs.Obeyed.{after, lacks_party, taken_in, obeyed};
 
-pub use run::Run;
+use messages::Incoming;
+use run::Run;
 use script::Step;
+use script_words::Output;
+use std::marker::Model;
 
 // The longest line that is read.
 const LINE_MOST: usize = 4096;
+
+// A run, with room for a table or a proposer's area, for an answer area and for what it puts out.
+#[derive(Drop)]
+pub struct Bench<const TABLE: usize, const AREA: usize, const OUT: usize> {
+    run: Run,
+    table: [u8; TABLE],
+    area: [u8; AREA],
+    out: Output<OUT>,
+}
+
+// What is lent is within the room.
+impl<const TABLE: usize, const AREA: usize, const OUT: usize> Model for Bench<TABLE, AREA, OUT> {
+    ghost use Rattle.std.specs.Prelude.{◌≤◌};
+    ghost use Rattle.script_run.specs.State.{State};
+
+    ghost Value = { State };
+
+    ghost view = { λ b. record { run = b.run; table = b.table; area = b.area; out = b.out } };
+
+    ghost invariant = { λ b. (b.run.bytes ≤ TABLE) × (b.run.reach ≤ TABLE) × (b.run.area ≤ AREA) };
+}
 
 // Whether a step is one on a party and there is none yet.
 fn lacks_party(step: Step, started: bool) -> bool
     ensures { result ≡ lacks_party step started }
 {
     match step {
-        Step::Pass => false,
-        Step::Acceptor(_) => false,
-        Step::Proposer(_, _) => false,
-        Step::Clock(_) => false,
-        Step::Lend {
-            registers: _,
-            bytes: _,
-            area: _,
-        } => !started,
-        Step::Poke(_) => !started,
-        Step::Table => !started,
-        Step::Area => !started,
-        Step::Tick(_) => !started,
-        Step::Message(_, _) => !started,
-        Step::Unreadable => false,
+        Step::Lend { .. }
+        | Step::Poke(_)
+        | Step::Table
+        | Step::Area
+        | Step::Tick(_)
+        | Step::Message(..) => !started,
+        _ => false,
     }
 }
 
-// A step that was read, and its bytes.
-fn take(
-    s: Run,
-    step: Step,
-    table: &mut [u8],
-    area: &mut [u8],
-    out: &mut [u8],
-    line: u64,
-    key: &[u8],
-    value: &[u8],
-    other: &[u8],
-    list: &[u16],
-) -> Run
-    requires { Held s table.old area.old out.old }
-    ensures { Stepped s out.old (taken_in s table.old area.old line step key.now value.now other.now list.now) result table.new area.new out.new }
-{
-    if lacks_party(step, s.started) {
-        return start::stop(s, table, area, out, line, b": no party yet\n");
+impl<const TABLE: usize, const AREA: usize, const OUT: usize> Bench<TABLE, AREA, OUT> {
+    pub fn new() -> Self
+        ensures { result ≡ state fresh (replicate TABLE 0) (replicate AREA 0) [] }
+    {
+        Bench {
+            run: Run::new(),
+            table: [0; TABLE],
+            area: [0; AREA],
+            out: Output::new(),
+        }
     }
-    match step {
-        Step::Pass => s,
-        Step::Acceptor(registers) => start::start(s, table, area, out, line, registers),
-        Step::Proposer(places, timeout) => start::start_proposer(
-            s, table, area, out, line, places, timeout, list,
-        ),
-        Step::Clock(time) => s.timed(time),
-        Step::Lend {
-            registers,
-            bytes,
-            area: n,
-        } => start::lend(s, table, area, out, line, registers, bytes, n),
-        Step::Poke(at) => start::poke(s, table, area, out, line, at, value),
-        Step::Table => show::show_table(s, table, area, out),
-        Step::Area => show::show_area(s, table, area, out),
-        Step::Tick(time) => party::tick(s, table, area, out, time),
-        Step::Message(from, rpc) => party::send(
-            s, table, area, out, from, rpc, key, value, other, list,
-        ),
-        Step::Unreadable => start::unreadable(s, table, area, out, line),
-    }
-}
 
-// A line of the script. The buffers `bytes` and `list` take its bytes and numbers.
-pub fn obey(
-    s: Run,
-    text: &[u8],
-    line: u64,
-    table: &mut [u8],
-    area: &mut [u8],
-    out: &mut [u8],
-    bytes: &mut [u8],
-    list: &mut [u16],
-) -> Run
-    requires { (Held s table.old area.old out.old) × (1800 ≤ length bytes.old) × (32 ≤ length list.old) }
-    ensures { Stepped s out.old (obeyed s table.old area.old line text.now) result table.new area.new out.new }
-{
-    if LINE_MOST < text.len() {
-        return start::unreadable(s, table, area, out, line);
+    // Whether the run is over.
+    pub fn ended(&self) -> bool
+        ensures { result ≡ self.now.run.ended }
+    {
+        self.run.ended
     }
-    let read = script::read(text, bytes, list);
-    let step = read.step;
-    let k = read.key;
-    let v = read.value;
-    let o = read.other;
-    let l = read.list;
-    take(
-        s,
-        step,
-        table,
-        area,
-        out,
-        line,
-        &bytes[0..k],
-        &bytes[k..v],
-        &bytes[v..o],
-        &list[0..l],
-    )
+
+    // What was put out.
+    pub fn out(&self) -> &Output<OUT>
+        ensures { result.now ≡ self.now.out }
+    {
+        &self.out
+    }
+
+    // What was put out is taken away.
+    pub fn clear_out(&mut self)
+        ensures { self.new ≡ state self.old.run self.old.table self.old.area [] }
+    {
+        self.out.clear();
+    }
+
+    // A step that was read, and its bytes.
+    fn take(&mut self, step: Step, line: u64, key: &[u8], value: &[u8], other: &[u8], list: &[u16])
+        ensures { self.new ≡ after OUT self.old (taken_in self.old.run self.old.table self.old.area line step key.now value.now other.now list.now) }
+    {
+        if lacks_party(step, self.run.party.is_some()) {
+            return self.stop(line, b": no party yet\n");
+        }
+        match step {
+            Step::Pass => {}
+            Step::Acceptor(registers) => self.start_acceptor(line, registers),
+            Step::Proposer(places, timeout) => self.start_proposer(line, places, timeout, list),
+            Step::Clock(time) => self.run.clock = time,
+            Step::Lend {
+                registers,
+                bytes,
+                area,
+            } => self.lend(line, registers, bytes, area),
+            Step::Poke(at) => self.poke(line, at, value),
+            Step::Table => self.show_table(),
+            Step::Area => self.show_area(),
+            Step::Tick(time) => self.tick(time),
+            Step::Message(from, rpc) => {
+                let message = Incoming {
+                    rpc,
+                    key,
+                    value,
+                    other,
+                    list,
+                };
+                self.send(from, message)
+            }
+            Step::Unreadable => self.unreadable(line),
+        }
+    }
+
+    // A line of the script.
+    pub fn obey(&mut self, text: &[u8], line: u64)
+        ensures { self.new ≡ after OUT self.old (obeyed self.old.run self.old.table self.old.area line text.now) }
+    {
+        if LINE_MOST < text.len() {
+            return self.unreadable(line);
+        }
+        // room for three words of the most bytes that one can give, and for the longest list
+        let mut bytes = [0; 1800];
+        let mut list = [0; 32];
+        let read = script::read(text, &mut bytes, &mut list);
+        self.take(
+            read.step,
+            line,
+            &bytes[..read.key],
+            &bytes[read.key..read.value],
+            &bytes[read.value..read.other],
+            &list[..read.list],
+        )
+    }
 }

@@ -1,90 +1,68 @@
 // A message or a tick at the party that there is.
-ghost use Rattle.messages.specs.Message.{message_of};
-ghost use Rattle.script_run.specs.Obeyed.{message_on, message_in, ticked_in, tick_in, Held, Gave, Stepped};
+#![tactic(auto, unfolding(crate::specs::Obeyed::message_on, crate::specs::Obeyed::tick_in))]
 
-use super::run::Run;
-use messages::{Address, Answer, Rpc};
+ghost use Rattle.std.specs.Prelude.{◌≡◌};
+ghost use Rattle.messages.specs.Message.{arrived};
+ghost use Rattle.script_run.specs.Obeyed.{after, is_proposer, message_on, message_in, tick_in, Gave};
+
+use super::Bench;
+use super::run::Party;
+use messages::{Address, Answer, Incoming};
 
 // A message to a proposer or an acceptor, with what is lent.
 fn receive(
-    proposer: bool,
+    party: Option<Party>,
     table: &mut [u8],
     capacity: usize,
     area: &mut [u8],
     from: Address,
     clock: u64,
-    rpc: Rpc,
-    key: &[u8],
-    value: &[u8],
-    other: &[u8],
-    list: &[u16],
+    message: Incoming,
 ) -> Answer
-    ensures { Gave (message_on proposer table.old capacity area.old from clock (message_of rpc key.now value.now other.now list.now)) result table.new area.new }
+    ensures { Gave (message_on (is_proposer party) table.old capacity area.old from clock (arrived message.entry)) result table.new area.new }
 {
-    if proposer {
-        return proposer::receive(
-            table, capacity, from, clock, rpc, key, value, other, list, area,
+    match party {
+        Some(Party::Proposer) => proposer::receive(table, capacity, from, clock, message, area),
+        _ => acceptor::receive(table, capacity, from, message, area),
+    }
+}
+
+impl<const TABLE: usize, const AREA: usize, const OUT: usize> Bench<TABLE, AREA, OUT> {
+    // `FROM MESSAGE`.
+    pub(crate) fn send(&mut self, from: Address, message: Incoming)
+        ensures { self.new ≡ after OUT self.old (message_in self.old.run self.old.table self.old.area from (arrived message.entry)) }
+    {
+        let run = self.run;
+        let table = &mut self.table[..];
+        let area = &mut self.area[..];
+        let answer = receive(
+            run.party,
+            &mut table[0..run.bytes],
+            run.capacity,
+            &mut area[0..run.area],
+            from,
+            run.clock,
+            message,
         );
+        self.put_answer(answer);
     }
-    acceptor::receive(table, capacity, from, rpc, key, value, other, list, area)
-}
 
-// `FROM MESSAGE`.
-pub fn send(
-    s: Run,
-    table: &mut [u8],
-    area: &mut [u8],
-    out: &mut [u8],
-    from: Address,
-    rpc: Rpc,
-    key: &[u8],
-    value: &[u8],
-    other: &[u8],
-    list: &[u16],
-) -> Run
-    requires { Held s table.old area.old out.old }
-    ensures { Stepped s out.old (message_in s table.old area.old from (message_of rpc key.now value.now other.now list.now)) result table.new area.new out.new }
-{
-    let bytes = s.bytes;
-    let n = s.area;
-    let answer = receive(
-        s.proposer,
-        &mut table[0..bytes],
-        s.capacity,
-        &mut area[0..n],
-        from,
-        s.clock,
-        rpc,
-        key,
-        value,
-        other,
-        list,
-    );
-    let at = script_answer::put_answer(out, s.at, answer, &area[0..n]);
-    s.put_up_to(at)
-}
-
-// A tick to the proposer, with what is lent.
-fn tick_proposer(s: Run, table: &mut [u8], area: &mut [u8], out: &mut [u8], time: u64) -> Run
-    requires { Held s table.old area.old out.old }
-    ensures { Stepped s out.old (ticked_in s table.old area.old time) result table.new area.new out.new }
-{
-    let bytes = s.bytes;
-    let n = s.area;
-    let answer = proposer::tick(&mut table[0..bytes], s.capacity, time, &mut area[0..n]);
-    let at = script_answer::put_answer(out, s.at, answer, &area[0..n]);
-    s.put_up_to(at)
-}
-
-// `tick TIME`: an acceptor's lends no table.
-pub fn tick(s: Run, table: &mut [u8], area: &mut [u8], out: &mut [u8], time: u64) -> Run
-    requires { Held s table.old area.old out.old }
-    ensures { Stepped s out.old (tick_in s table.old area.old time) result table.new area.new out.new }
-{
-    if s.proposer {
-        return tick_proposer(s, table, area, out, time);
+    // `tick TIME`: a proposer is lent both, an acceptor nothing.
+    pub(crate) fn tick(&mut self, time: u64)
+        ensures { self.new ≡ after OUT self.old (tick_in self.old.run self.old.table self.old.area time) }
+    {
+        let run = self.run;
+        let Some(Party::Proposer) = run.party else {
+            return self.put_answer(acceptor::tick());
+        };
+        let table = &mut self.table[..];
+        let area = &mut self.area[..];
+        let answer = proposer::tick(
+            &mut table[0..run.bytes],
+            run.capacity,
+            time,
+            &mut area[0..run.area],
+        );
+        self.put_answer(answer);
     }
-    let n = s.area;
-    let at = script_answer::put_answer(out, s.at, acceptor::tick(), &area[0..n]);
-    s.put_up_to(at)
 }

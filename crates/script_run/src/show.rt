@@ -1,56 +1,46 @@
 // What is lent, as lines of text.
-ghost use Rattle.std.specs.Prelude.{◌≡◌, ◌+◌, ◌≤◌, ◌<◌, min, length, take};
-ghost use Rattle.script_words.specs.Written.{Put};
-ghost use Rattle.script_answer.specs.Lines.{area_line};
-ghost use Rattle.script_run.specs.Obeyed.{table_text, ran, Held, Stepped};
+ghost use Rattle.std.specs.Prelude.{◌≡◌, take};
+ghost use Rattle.script_words.specs.Written.{put};
+ghost use Rattle.script_answer.specs.Lines.{area_line, answer_line};
+ghost use Rattle.script_run.specs.Obeyed.{table_text, ran, after};
 
-use super::run::Run;
+use super::Bench;
+use messages::Answer;
+use script_answer::{put_area, put_block};
+use script_words::Output;
 use storage_block::BLOCK;
 
-// Where the block that begins at a place ends; the last one may be cut short.
-fn block_end(table: &[u8], a: usize) -> usize
-    requires { a < length table.now }
-    ensures { result ≡ min (a + 512) (length table.now) }
+// A line for each block of a table that is not all zeros; the last block may be cut short.
+fn put_table<const N: usize>(out: &mut Output<N>, table: &[u8])
+    ensures { out.new ≡ put N out.old (table_text table.now) }
 {
-    if table.len() - a < BLOCK {
-        return table.len();
+    for (i, block) in table.chunks(BLOCK).enumerate() {
+        put_block(out, i, block);
     }
-    a + BLOCK
 }
 
-// A line for each block of a table that is not all zeros.
-fn put_table(out: &mut [u8], at: usize, table: &[u8]) -> usize
-    requires { at ≤ length out.old }
-    ensures { Put out.old at (table_text table.now) result out.new }
-{
-    let mut p = at;
-    let mut i = 0;
-    let mut a = 0;
-    while a < table.len() {
-        let e = block_end(table, a);
-        p = script_answer::put_block(out, p, i, &table[a..e]);
-        i += 1;
-        a = e;
+impl<const TABLE: usize, const AREA: usize, const OUT: usize> Bench<TABLE, AREA, OUT> {
+    // `table`.
+    pub(crate) fn show_table(&mut self)
+        ensures { self.new ≡ after OUT self.old (ran self.old.run self.old.table self.old.area (table_text (take self.old.run.bytes self.old.table))) }
+    {
+        let table = &self.table[..];
+        put_table(&mut self.out, &table[..self.run.bytes]);
     }
-    p
-}
 
-// `table`.
-pub fn show_table(s: Run, table: &[u8], area: &[u8], out: &mut [u8]) -> Run
-    requires { Held s table.now area.now out.old }
-    ensures { Stepped s out.old (ran s table.now area.now (table_text (take s.bytes table.now))) result table.now area.now out.new }
-{
-    let n = s.bytes;
-    let at = put_table(out, s.at, &table[0..n]);
-    s.put_up_to(at)
-}
+    // `area`.
+    pub(crate) fn show_area(&mut self)
+        ensures { self.new ≡ after OUT self.old (ran self.old.run self.old.table self.old.area (area_line (take self.old.run.area self.old.area))) }
+    {
+        let area = &self.area[..];
+        put_area(&mut self.out, &area[..self.run.area]);
+    }
 
-// `area`.
-pub fn show_area(s: Run, table: &[u8], area: &[u8], out: &mut [u8]) -> Run
-    requires { Held s table.now area.now out.old }
-    ensures { Stepped s out.old (ran s table.now area.now (area_line (take s.area area.now))) result table.now area.now out.new }
-{
-    let n = s.area;
-    let at = script_answer::put_area(out, s.at, &area[0..n]);
-    s.put_up_to(at)
+    // An answer's line, with its bytes in the answer area.
+    pub(crate) fn put_answer(&mut self, answer: Answer)
+        ensures { self.new ≡ after OUT self.old (ran self.old.run self.old.table self.old.area (answer_line answer (take self.old.run.area self.old.area))) }
+    {
+        let area = &self.area[..];
+        script_answer::put_answer(&mut self.out, answer, &area[..self.run.area]);
+    }
 }

@@ -1,12 +1,14 @@
 // A party afresh, and what is lent to it.
-ghost use Rattle.std.specs.Prelude.{[], take};
+#![tactic(auto, using(script_words::specs::WrittenLaws::joined, script_words::specs::WrittenLaws::put_nothing), unfolding(crate::specs::Obeyed::fresh_in, crate::specs::Obeyed::acceptor_in, crate::specs::Obeyed::proposer_in, crate::specs::Obeyed::lend_in, crate::specs::Obeyed::poke_in))]
+
+ghost use Rattle.std.specs.Prelude.{◌≡◌, [], take};
 ghost use Rattle.proposer.specs.Contract.{start_on};
 ghost use Rattle.script_run.specs.Obeyed.{
-  Held,
-  Stepped,
+  after,
   ran,
   stopped,
   unreadable,
+  has_room,
   fresh_in,
   acceptor_in,
   started_by,
@@ -15,7 +17,8 @@ ghost use Rattle.script_run.specs.Obeyed.{
   poke_in,
 };
 
-use super::run::Run;
+use super::Bench;
+use super::run::Party;
 use messages::{REGISTERS_MOST, ROW, ROWS_AT};
 use proposer_area::HEADER;
 use proposer_place::PLACE;
@@ -24,167 +27,112 @@ use storage_block::BLOCK;
 // The most places that the buffers have room for.
 const PLACES_ROOM: usize = 60;
 
-// The run's last line.
-pub fn stop(s: Run, table: &[u8], area: &[u8], out: &mut [u8], line: u64, why: &[u8]) -> Run
-    requires { Held s table.now area.now out.old }
-    ensures { Stepped s out.old (stopped s table.now area.now line why.now) result table.now area.now out.new }
-{
-    let p = script_words::put_text(out, s.at, b"line ");
-    let q = script_words::put_number(out, p, line);
-    let at = script_words::put_text(out, q, why);
-    s.put_up_to(at).over()
-}
+impl<const TABLE: usize, const AREA: usize, const OUT: usize> Bench<TABLE, AREA, OUT> {
+    // The run's last line.
+    pub(crate) fn stop(&mut self, line: u64, why: &[u8])
+        ensures { self.new ≡ after OUT self.old (stopped self.old.run self.old.table self.old.area line why.now) }
+    {
+        self.out.put_text(b"line ");
+        self.out.put_number(line);
+        self.out.put_text(why);
+        self.run.ended = true;
+    }
 
-pub fn unreadable(s: Run, table: &[u8], area: &[u8], out: &mut [u8], line: u64) -> Run
-    requires { Held s table.now area.now out.old }
-    ensures { Stepped s out.old (unreadable s table.now area.now line) result table.now area.now out.new }
-{
-    stop(s, table, area, out, line, b": can't be read\n")
-}
+    pub(crate) fn unreadable(&mut self, line: u64)
+        ensures { self.new ≡ after OUT self.old (unreadable self.old.run self.old.table self.old.area line) }
+    {
+        self.stop(line, b": can't be read\n");
+    }
 
-// A fresh party: what it is lent is zeros.
-fn fresh(
-    s: Run,
-    table: &mut [u8],
-    area: &mut [u8],
-    out: &mut [u8],
-    line: u64,
-    proposer: bool,
-    capacity: usize,
-    bytes: usize,
-    n: usize,
-) -> Run
-    requires { Held s table.old area.old out.old }
-    ensures { Stepped s out.old (fresh_in s table.old area.old line proposer capacity bytes n) result table.new area.new out.new }
-{
-    if table.len() < bytes {
-        return unreadable(s, table, area, out, line);
+    // Whether there is room for a table and an answer area of so many bytes.
+    fn has_room(&self, bytes: usize, area: usize) -> bool
+        ensures { result ≡ has_room self.now.table self.now.area bytes area }
+    {
+        let (table, answer) = (&self.table[..], &self.area[..]);
+        bytes <= table.len() && area <= answer.len()
     }
-    if area.len() < n {
-        return unreadable(s, table, area, out, line);
-    }
-    let reach = s.reach;
-    leaf_fields::clear(&mut table[0..reach]);
-    leaf_fields::clear(area);
-    s.cleared().lending(proposer, capacity, bytes, n)
-}
 
-// `acceptor REGISTERS`.
-pub fn start(
-    s: Run,
-    table: &mut [u8],
-    area: &mut [u8],
-    out: &mut [u8],
-    line: u64,
-    registers: usize,
-) -> Run
-    requires { Held s table.old area.old out.old }
-    ensures { Stepped s out.old (acceptor_in s table.old area.old line registers) result table.new area.new out.new }
-{
-    if REGISTERS_MOST < registers {
-        return unreadable(s, table, area, out, line);
+    // A fresh party: what it is lent is zeros.
+    fn fresh(&mut self, line: u64, party: Party, capacity: usize, bytes: usize, area: usize)
+        ensures { self.new ≡ after OUT self.old (fresh_in self.old.run self.old.table self.old.area line party capacity bytes area) }
+    {
+        if !self.has_room(bytes, area) {
+            return self.unreadable(line);
+        }
+        let table = &mut self.table[..];
+        table[0..self.run.reach].fill(0);
+        self.area.fill(0);
+        self.run.party = Some(party);
+        self.run.reach = 0;
+        self.run = self.run.lending(capacity, bytes, area);
     }
-    let bytes = registers * BLOCK;
-    fresh(
-        s,
-        table,
-        area,
-        out,
-        line,
-        false,
-        registers,
-        bytes,
-        acceptor::ANSWER,
-    )
-}
 
-// `lend CAPACITY BYTES AREA`.
-pub fn lend(
-    s: Run,
-    table: &[u8],
-    area: &[u8],
-    out: &mut [u8],
-    line: u64,
-    capacity: usize,
-    bytes: usize,
-    n: usize,
-) -> Run
-    requires { Held s table.now area.now out.old }
-    ensures { Stepped s out.old (lend_in s table.now area.now line capacity bytes n) result table.now area.now out.new }
-{
-    if table.len() < bytes {
-        return unreadable(s, table, area, out, line);
+    // `acceptor REGISTERS`.
+    pub(crate) fn start_acceptor(&mut self, line: u64, registers: usize)
+        ensures { self.new ≡ after OUT self.old (acceptor_in self.old.run self.old.table self.old.area line registers) }
+    {
+        if REGISTERS_MOST < registers {
+            return self.unreadable(line);
+        }
+        self.fresh(
+            line,
+            Party::Acceptor,
+            registers,
+            registers * BLOCK,
+            acceptor::ANSWER,
+        );
     }
-    if area.len() < n {
-        return unreadable(s, table, area, out, line);
-    }
-    s.lending(s.proposer, capacity, bytes, n)
-}
 
-// `poke AT BYTES`.
-pub fn poke(
-    s: Run,
-    table: &mut [u8],
-    area: &[u8],
-    out: &mut [u8],
-    line: u64,
-    at: usize,
-    bytes: &[u8],
-) -> Run
-    requires { Held s table.old area.now out.old }
-    ensures { Stepped s out.old (poke_in s table.old area.now line at bytes.now) result table.new area.now out.new }
-{
-    if table.len() < at {
-        return unreadable(s, table, area, out, line);
+    // `lend CAPACITY BYTES AREA`.
+    pub(crate) fn lend(&mut self, line: u64, capacity: usize, bytes: usize, area: usize)
+        ensures { self.new ≡ after OUT self.old (lend_in self.old.run self.old.table self.old.area line capacity bytes area) }
+    {
+        if !self.has_room(bytes, area) {
+            return self.unreadable(line);
+        }
+        self.run = self.run.lending(capacity, bytes, area);
     }
-    if table.len() - at < bytes.len() {
-        return unreadable(s, table, area, out, line);
-    }
-    leaf_fields::copy(table, at, bytes);
-    s.reached(at + bytes.len())
-}
 
-// A proposer's start, on the area that it is lent.
-fn open_proposer(
-    s: Run,
-    table: &mut [u8],
-    area: &[u8],
-    out: &mut [u8],
-    timeout: u64,
-    list: &[u16],
-) -> Run
-    requires { Held s table.old area.now out.old }
-    ensures { Stepped s out.old (started_by (ran s table.old area.now []) (start_on (take s.bytes table.old) s.capacity timeout list.now)) result table.new area.now out.new }
-{
-    let bytes = s.bytes;
-    let answer = proposer::start(&mut table[0..bytes], s.capacity, timeout, list);
-    let n = s.area;
-    let at = script_answer::put_answer(out, s.at, answer, &area[0..n]);
-    s.put_up_to(at)
-}
+    // `poke AT BYTES`.
+    pub(crate) fn poke(&mut self, line: u64, at: usize, bytes: &[u8])
+        ensures { self.new ≡ after OUT self.old (poke_in self.old.run self.old.table self.old.area line at bytes.now) }
+    {
+        let table = &mut self.table[..];
+        if table.len() < at || table.len() - at < bytes.len() {
+            return self.unreadable(line);
+        }
+        let end = at + bytes.len();
+        table[at..end].copy_from_slice(bytes);
+        self.run = self.run.reached(end);
+    }
 
-// `proposer PLACES TIMEOUT LIST`.
-pub fn start_proposer(
-    s: Run,
-    table: &mut [u8],
-    area: &mut [u8],
-    out: &mut [u8],
-    line: u64,
-    places: usize,
-    timeout: u64,
-    list: &[u16],
-) -> Run
-    requires { Held s table.old area.old out.old }
-    ensures { Stepped s out.old (proposer_in s table.old area.old line places timeout list.now) result table.new area.new out.new }
-{
-    if PLACES_ROOM < places {
-        return unreadable(s, table, area, out, line);
+    // A proposer's start, on the area that it is lent.
+    fn open_proposer(&mut self, timeout: u64, list: &[u16])
+        ensures { self.new ≡ after OUT self.old (started_by (ran self.old.run self.old.table self.old.area []) (start_on (take self.old.run.bytes self.old.table) self.old.run.capacity timeout list.now)) }
+    {
+        let run = self.run;
+        let table = &mut self.table[..];
+        let answer = proposer::start(&mut table[0..run.bytes], run.capacity, timeout, list);
+        self.put_answer(answer);
     }
-    let bytes = HEADER + PLACE * places;
-    let n = ROWS_AT + ROW * places;
-    let t = fresh(s, table, area, out, line, true, places, bytes, n);
-    if t.ended {
-        return t;
+
+    // `proposer PLACES TIMEOUT LIST`.
+    pub(crate) fn start_proposer(&mut self, line: u64, places: usize, timeout: u64, list: &[u16])
+        ensures { self.new ≡ after OUT self.old (proposer_in self.old.run self.old.table self.old.area line places timeout list.now) }
+    {
+        if PLACES_ROOM < places {
+            return self.unreadable(line);
+        }
+        self.fresh(
+            line,
+            Party::Proposer,
+            places,
+            HEADER + PLACE * places,
+            ROWS_AT + ROW * places,
+        );
+        if self.run.ended {
+            return;
+        }
+        self.open_proposer(timeout, list);
     }
-    open_proposer(t, table, area, out, timeout, list)
 }

@@ -1,8 +1,8 @@
 -- The most that a line and a word give: eight words, 600 bytes, 32 numbers.
 -- Assumes nothing.
-use Rattle.std.specs.Prelude.{◌≡◌, refl, Bool, true, false, cond, List, [], ◌∷◌, ◌++◌, ℕ, zero, suc, ◌+◌, ◌*◌, ◌≤◌, eqb, ltb, leb, length, take, drop}
+use Rattle.std.specs.Prelude.{◌≡◌, refl, Bool, true, false, cond, List, [], ◌∷◌, ◌++◌, ℕ, zero, suc, ◌+◌, ◌*◌, ◌≤◌, eqb, ltb, leb, length, take, drop, Option, Some, None}
 use Rattle.std.proofs.Common.{arith, length-append, length-drop, ltb-false}
-use Rattle.script_words.specs.declared.number.Sender.{Sender}
+use Rattle.messages.specs.declared.Address.{Address}
 use Rattle.script_words.specs.Text.{up_to, address_of, unhexed, bytes_of, entry_before, numbers_from, list_of}
 use Rattle.script_words.specs.Split.{words_behind, words_of}
 
@@ -49,9 +49,9 @@ numbers_most (suc n) w =
     (cond (leb (length w) (up_to 44 w)) [] rest)
     (either (leb (length w) (up_to 44 w)) [] rest n (omega arith) (numbers_most n (drop (suc (up_to 44 w)) w)))
   where
-    entry : (s : Sender) (l : List ℕ) → length l ≤ n → length (entry_before s l) ≤ suc n
-    entry Sender.Bad l h = omega arith
-    entry (Sender.Good a) l h = omega arith
+    entry : (s : Option Address) (l : List ℕ) → length l ≤ n → length (entry_before s l) ≤ suc n
+    entry None l h = omega arith
+    entry (Some a) l h = omega arith
 
 pub list_most_lem : (w : List ℕ) → length (list_of w) ≤ 32
 unfolding list_of

@@ -1,10 +1,9 @@
 -- A row of tests, as the code goes through it: the first that holds decides, and one that doesn't hold leaves it to the rest. The word that was tested is the line's word.
 -- Assumes nothing.
-use Rattle.std.specs.Prelude.{◌≡◌, Bool, true, false, cond, List, ℕ, eqb}
+use Rattle.std.specs.Prelude.{◌≡◌, Bool, true, false, cond, List, ℕ, eqb, Option}
 use Rattle.std.proofs.Common.{eq-eqb, ne_eqb}
 use Rattle.leaf_fields.specs.Fields.{same}
-use Rattle.script_words.specs.declared.number.Number.{Number}
-use Rattle.script_words.specs.declared.number.Sender.{Sender}
+use Rattle.messages.specs.declared.Address.{Address}
 use Rattle.script_words.specs.Text.{number_of, address_of, bytes_word, list_word}
 
 -- a number
@@ -36,10 +35,10 @@ pub no_list : {A : Type 0} (t : Bool) (v w : List ℕ) (r x y : A) → t ≡ lis
 no_list t v w r x y e h f g = rw (← f, ← e, h, g)
 
 -- what was read of a word is what the line's word is
-pub number_at : (x : Number) (v w : List ℕ) → x ≡ number_of v → v ≡ w → x ≡ number_of w
+pub number_at : (x : Option ℕ) (v w : List ℕ) → x ≡ number_of v → v ≡ w → x ≡ number_of w
 number_at x v w e f = rw (← f, e)
 
-pub address_at : (x : Sender) (v w : List ℕ) → x ≡ address_of v → v ≡ w → x ≡ address_of w
+pub address_at : (x : Option Address) (v w : List ℕ) → x ≡ address_of v → v ≡ w → x ≡ address_of w
 address_at x v w e f = rw (← f, e)
 
 pub bytes_at : (t : Bool) (v w : List ℕ) → t ≡ bytes_word v → v ≡ w → t ≡ bytes_word w

@@ -1,9 +1,8 @@
 -- The words of a script: where a byte stands, the number and the address that a word is, when it stands for bytes or a list, and for which.
 -- Assumes nothing.
-use Rattle.std.specs.Prelude.{Bool, true, false, cond, ◌&&◌, ◌||◌, List, [], ◌∷◌, ℕ, zero, suc, ◌+◌, ◌-◌, ◌*◌, ◌%◌, ◌^◌, eqb, ltb, leb, length, take, drop}
+use Rattle.std.specs.Prelude.{Bool, true, false, cond, ◌&&◌, ◌||◌, List, [], ◌∷◌, ℕ, zero, suc, ◌+◌, ◌-◌, ◌*◌, ◌%◌, ◌^◌, eqb, ltb, leb, length, take, drop, Option, Some, None, is_some}
 use Rattle.leaf_fields.specs.Fields.{same}
-use Rattle.script_words.specs.declared.number.Number.{Number}
-use Rattle.script_words.specs.declared.number.Sender.{Sender}
+use Rattle.messages.specs.declared.Address.{Address}
 
 -- how many elements stand before the first b; all where there is none
 unfoldable pub up_to : ℕ → List ℕ → ℕ
@@ -19,21 +18,21 @@ abbrev pub is_digit : ℕ → Bool
 is_digit b = leb 48 b && leb b 57
 
 -- x followed by decimal digits; none other, and below 2^64 all the way
-unfoldable pub digits_from : ℕ → List ℕ → Number
-digits_from x [] = Number.Good x
+unfoldable pub digits_from : ℕ → List ℕ → Option ℕ
+digits_from x [] = Some x
 digits_from x (b ∷ l) =
-    cond (is_digit b) (cond (ltb (x * 10 + (b - 48)) (2 ^ 64)) (digits_from (x * 10 + (b - 48)) l) Number.Bad) Number.Bad
+    cond (is_digit b) (cond (ltb (x * 10 + (b - 48)) (2 ^ 64)) (digits_from (x * 10 + (b - 48)) l) None) None
 
-unfoldable pub number_of : List ℕ → Number
-number_of [] = Number.Bad
+unfoldable pub number_of : List ℕ → Option ℕ
+number_of [] = None
 number_of (b ∷ l) = digits_from 0 (b ∷ l)
 
 -- a number of 16 bits
-abbrev pub address_from : Number → Sender
-address_from Number.Bad = Sender.Bad
-address_from (Number.Good n) = cond (ltb 65535 n) Sender.Bad (Sender.Good (record { 0 = n }))
+abbrev pub address_from : Option ℕ → Option Address
+address_from None = None
+address_from (Some n) = cond (ltb 65535 n) None (Some (record { 0 = n }))
 
-abbrev pub address_of : List ℕ → Sender
+abbrev pub address_of : List ℕ → Option Address
 address_of w = address_from (number_of w)
 
 -- `0` to `9` and `a` to `f`
@@ -62,23 +61,19 @@ unhexed (a ∷ b ∷ l) = (hex_value a * 16 + hex_value b) ∷ unhexed l
 unfoldable pub bytes_of : List ℕ → List ℕ
 bytes_of w = cond (ltb 1201 (length w)) [] (unhexed (drop 1 w))
 
-abbrev pub is_good : Sender → Bool
-is_good Sender.Bad = false
-is_good (Sender.Good a) = true
-
 -- one to n numbers of 16 bits with commas between them
 unfoldable pub list_from : ℕ → List ℕ → Bool
 list_from zero w = false
 list_from (suc n) w =
-    is_good (address_of (take (up_to 44 w) w)) && (leb (length w) (up_to 44 w) || list_from n (drop (suc (up_to 44 w)) w))
+    is_some (address_of (take (up_to 44 w) w)) && (leb (length w) (up_to 44 w) || list_from n (drop (suc (up_to 44 w)) w))
 
 -- `-`, or one to 32 numbers
 unfoldable pub list_word : List ℕ → Bool
 list_word w = same w (45 ∷ []) || list_from 32 w
 
-abbrev pub entry_before : Sender → List ℕ → List ℕ
-entry_before Sender.Bad rest = []
-entry_before (Sender.Good a) rest = a.0 ∷ rest
+abbrev pub entry_before : Option Address → List ℕ → List ℕ
+entry_before None rest = []
+entry_before (Some a) rest = a.0 ∷ rest
 
 -- the first n numbers of a list's word; what is no number ends them
 unfoldable pub numbers_from : ℕ → List ℕ → List ℕ

@@ -1,6 +1,6 @@
--- What the writers leave in a lent buffer, byte by byte, and the place behind.
+-- What is put out, byte by byte; bytes that are stored in a lent buffer, and the place behind.
 -- Assumes nothing.
-use Rattle.std.specs.Prelude.{◌≡◌, cond, List, [], ◌∷◌, ℕ, zero, suc, ◌+◌, ◌/◌, ◌%◌, ◌≤◌, min, ltb, length}
+use Rattle.std.specs.Prelude.{cond, List, [], ◌∷◌, ◌++◌, ℕ, zero, suc, ◌+◌, ◌-◌, ◌/◌, ◌%◌, min, ltb, length, take}
 use Rattle.std.proofs.lemmas.List.Edits.{sets}
 
 -- a buffer with these bytes from a place on; those past its end are left out
@@ -11,11 +11,9 @@ written out at text = sets out at text
 abbrev pub behind : List ℕ → ℕ → ℕ → ℕ
 behind out at n = min (at + n) (length out)
 
--- a text was put at a place: the place behind it, and every byte of the buffer afterwards
-pub record Put (out : List ℕ) (at : ℕ) (text : List ℕ) (r : ℕ) (after : List ℕ) : Type 0 where
-  pub within : r ≤ length after
-  pub place : r ≡ behind out at (length text)
-  pub bytes : after ≡ written out at text
+-- what is put out so far, and a text behind it, in room for n bytes; what doesn't fit is left out
+unfoldable pub put : ℕ → List ℕ → List ℕ → List ℕ
+put n out text = out ++ take (n - length out) text
 
 -- a hex digit; `?` for a number that has none
 abbrev pub hex_digit : ℕ → ℕ

@@ -1,88 +1,77 @@
--- The laws of what is put into a lent buffer: past its end nothing is, two texts behind each other are one, and what is left to put in a loop.
+-- The laws of what is put out: two texts behind each other are one, no text changes nothing, and what is left to put in a loop. Nothing is stored past a lent buffer's end.
 -- Assumes nothing.
-use Rattle.std.specs.Prelude.{◌≡◌, refl, Bool, true, false, List, [], ◌∷◌, ◌++◌, ℕ, suc, ◌+◌, ◌≤◌, ◌<◌, min, ltb, length, set}
-use Rattle.std.proofs.Common.{sym, ap, ◌∙◌, le_refl, add-zero, arith, ltb-true, ltb-false, length-set, length-append}
+use Rattle.std.specs.Prelude.{◌≡◌, refl, Bool, true, false, List, [], ◌∷◌, ◌++◌, ℕ, zero, suc, ◌+◌, ◌-◌, ◌≤◌, ◌<◌, min, ltb, length, take, set}
+use Rattle.std.proofs.Common.{ap, sym, ◌∙◌, arith, append_assoc, add-one, length-append, length-set, length-take-le, ltb-true, ltb-false}
 use Rattle.std.proofs.lemmas.List.Edits.{sets}
-use Rattle.std.proofs.Math.Seq.{set_out, length-sets}
-use Rattle.script_words.specs.Written.{written, behind, Put}
+use Rattle.std.proofs.lemmas.List.{append-nil, take_more_set}
+use Rattle.std.proofs.Math.Nat.{sub-zero}
+use Rattle.std.proofs.Math.Seq.{set_out}
+use Rattle.script_words.specs.Written.{put, written, behind}
 
--- ---- nothing is put past the end
-
+-- nothing is stored past the end
 pub sets_past : (l vs : List ℕ) (i : ℕ) → length l ≤ i → sets l i vs ≡ l
 sets_past l [] i h = refl
 sets_past l (a ∷ vs) i h = rw (set_out l i a h) (sets_past l vs (suc i) (omega arith))
 
--- ---- a text, and another behind it, is both as one text
+-- what fits of a text, and of another in the room that it leaves, is what fits of both
+taken : (m : ℕ) (s t : List ℕ) → take m s ++ take (m - length (take m s)) t ≡ take m (s ++ t)
+taken zero s t = refl
+taken (suc m) [] t = rw (sub-zero (suc m))
+taken (suc m) (a ∷ s) t =
+    let e : suc m - suc (length (take m s)) ≡ m - length (take m s) = omega arith in
+    rw e (ap (λ (l : List ℕ). a ∷ l) (taken m s t))
 
-from_inside : (out t : List ℕ) (at : ℕ) (b : Bool) → ltb at (length out) ≡ b → sets out (min at (length out)) t ≡ sets out at t
-from_inside out t at true h =
-    let k : at < length out = ltb-true at (length out) h in
-    let e : min at (length out) ≡ at = omega arith in
-    rw e
-from_inside out t at false h =
-    let k : length out ≤ at = ltb-false at (length out) h in
-    let e : min at (length out) ≡ length out = omega arith in
-    rw (e, sets_past out t (length out) (le_refl (length out)), sets_past out t at k)
+none_taken : (m : ℕ) → take {A = ℕ} m [] ≡ []
+none_taken zero = refl
+none_taken (suc m) = refl
 
-sets-behind : (out s t : List ℕ) (at : ℕ) → sets (sets out at s) (behind out at (length s)) t ≡ sets out at (s ++ t)
-sets-behind out [] t at = rw (add-zero at) (from_inside out t at (ltb at (length out)) refl)
-sets-behind out (a ∷ s) t at =
-    let e : behind (set out at a) (suc at) (length s) ≡ behind out at (length (a ∷ s)) = rw (length-set out at a) (omega arith) in
-    rw (← e) (sets-behind (set out at a) s t (suc at))
+pub put_nothing : (n : ℕ) (out : List ℕ) → put n out [] ≡ out
+unfolding put
+put_nothing n out = rw (none_taken (n - length out)) (append-nil out)
 
-length-written : (out s : List ℕ) (at : ℕ) → length (written out at s) ≡ length out
-unfolding written
-length-written out s at = length-sets out at s
-
-written-behind : (out s t : List ℕ) (at : ℕ) → written (written out at s) (behind out at (length s)) t ≡ written out at (s ++ t)
-unfolding written
-written-behind out s t at = sets-behind out s t at
-
--- a buffer keeps its length
-same-length : {out s mid : List ℕ} {at p : ℕ} → Put out at s p mid → length mid ≡ length out
-same-length {out} {s} {mid} {at} h = rw h.bytes (length-written out s at)
-
-pub joined : {out s t mid after : List ℕ} {at p r : ℕ} → Put out at s p mid → Put mid p t r after → Put out at (s ++ t) r after
-joined {out} {s} {t} {mid} {after} {at} {p} {r} f g =
-    let l : length mid ≡ length out = same-length f in
-    let e : r ≡ behind out at (length (s ++ t)) = rw (length-append s t) (omega (arith, f.place, g.place)) in
-    let b : after ≡ written out at (s ++ t) = g.bytes ∙ rw (f.bytes, f.place) (written-behind out s t at) in
-    record { within = g.within; place = e; bytes = b }
+-- a text, and another behind it, is both as one text
+pub joined : (n : ℕ) (out s t : List ℕ) → put n (put n out s) t ≡ put n out (s ++ t)
+unfolding put
+joined n out s t =
+    let m : ℕ = n - length out in
+    let e : n - length (out ++ take m s) ≡ m - length (take m s) = rw (length-append out (take m s)) (omega arith) in
+    rw e (append_assoc out (take m s) (take (m - length (take m s)) t) ∙ ap (λ (l : List ℕ). out ++ l) (taken m s t))
 
 -- the same of a text that the two are
-pub both : {out s t u mid after : List ℕ} {at p r : ℕ} → Put out at s p mid → Put mid p t r after → u ≡ s ++ t → Put out at u r after
-both f g e = rw e (joined f g)
+pub both : (n : ℕ) (out s t u mid after : List ℕ) → mid ≡ put n out s → after ≡ put n mid t → u ≡ s ++ t → after ≡ put n out u
+both n out s t u mid after e f g = rw (f, e, g) (joined n out s t)
 
--- ---- in a loop
+-- ---- in a loop, where what is left to put gives the whole
 
--- what is left to put at p gives the whole
-pub record Left (out₀ : List ℕ) (at : ℕ) (whole out : List ℕ) (p : ℕ) (left : List ℕ) : Type 0 where
-  pub size : length out ≡ length out₀
-  pub place : behind out p (length left) ≡ behind out₀ at (length whole)
-  pub bytes : written out p left ≡ written out₀ at whole
-
-pub all_left : {out whole : List ℕ} {at : ℕ} → Left out at whole out at whole
-all_left = record { size = refl; place = refl; bytes = refl }
-
-pub less_left : {out₀ whole out left s rest next : List ℕ} {at p q : ℕ} → Left out₀ at whole out p left → Put out p s q next → left ≡ s ++ rest → Left out₀ at whole next q rest
-less_left {out₀} {whole} {out} {left} {s} {rest} {next} {at} {p} {q} h f e =
-    let l : length next ≡ length out = same-length f in
-    let n : length left ≡ length s + length rest = rw e (length-append s rest) in
-    let b : written next q rest ≡ written out p left = rw (f.bytes, f.place, e) (written-behind out s rest p) in
-    record { size = l ∙ h.size; place = omega (arith, h.place, f.place); bytes = b ∙ h.bytes }
-
-nothing_more : {out₀ whole out left : List ℕ} {at p : ℕ} → Left out₀ at whole out p left → left ≡ [] → out ≡ written out₀ at whole
-unfolding written
-nothing_more {out₀} {whole} {out} {left} {at} {p} h e =
-    let b : written out p left ≡ out = rw e in
-    sym b ∙ h.bytes
+pub less_left : (n : ℕ) (out next left s rest whole : List ℕ) → next ≡ put n out s → left ≡ s ++ rest → put n out left ≡ whole → put n next rest ≡ whole
+less_left n out next left s rest whole e f g = rw (e, joined n out s rest) (rw f at g)
 
 -- nothing is left
-pub none_left : {out₀ whole out left : List ℕ} {at p : ℕ} → Left out₀ at whole out p left → left ≡ [] → p ≤ length out → Put out₀ at whole p out
-none_left h e k =
-    record { within = k; place = omega (arith, h.place, ap length e); bytes = nothing_more h e }
+pub none_left : (n : ℕ) (out left whole : List ℕ) → left ≡ [] → put n out left ≡ whole → out ≡ whole
+none_left n out left whole e g = sym (put_nothing n out) ∙ rw e at g
 
--- nothing is left, and the place is past the end
-pub none_fits : {out₀ whole out left : List ℕ} {at p : ℕ} → Left out₀ at whole out p left → left ≡ [] → length out < p → Put out₀ at whole (length out) out
-none_fits {out₀} {whole} {out} h e k =
-    record { within = le_refl (length out); place = omega (arith, h.place, ap length e); bytes = nothing_more h e }
+-- ---- the same in a lent buffer: what then stands before the place behind is what was there, and the text behind it
+
+stored : (text buf : List ℕ) (at : ℕ) → at ≤ length buf → take (min (at + length text) (length buf)) (sets buf at text) ≡ take at buf ++ take (length buf - at) text
+stored [] buf at h =
+    let e : min (at + 0) (length buf) ≡ at = omega arith in
+    rw (e, none_taken (length buf - at), append-nil (take at buf))
+stored (a ∷ text) buf at h = by_room (ltb at (length buf)) refl (λ k. stored text (set buf at a) (suc at) k)
+  where
+    by_room : (t : Bool) → ltb at (length buf) ≡ t → (suc at ≤ length (set buf at a) → take (min (suc at + length text) (length (set buf at a))) (sets (set buf at a) (suc at) text) ≡ take (suc at) (set buf at a) ++ take (length (set buf at a) - suc at) text) → take (min (at + suc (length text)) (length buf)) (sets buf at (a ∷ text)) ≡ take at buf ++ take (length buf - at) (a ∷ text)
+    by_room true e next =
+        let more : at < length buf = ltb-true at (length buf) e in
+        let l : length (set buf at a) ≡ length buf = length-set buf at a in
+        let m : at + suc (length text) ≡ suc at + length text = omega arith in
+        let n : length buf - at ≡ suc (length buf - suc at) = omega arith in
+        let front : take (suc at) (set buf at a) ≡ take at buf ++ a ∷ [] = rw (← add-one) (take_more_set buf at a more) in
+        rw (m, n) (rw (l, front) at (next (omega arith)) ∙ append_assoc (take at buf) (a ∷ []) (take (length buf - suc at) text))
+    by_room false e next =
+        let all : length buf ≤ at = ltb-false at (length buf) e in
+        let k : min (at + suc (length text)) (length buf) ≡ at = omega arith in
+        let z : length buf - at ≡ 0 = omega arith in
+        rw (k, z, sets_past buf (a ∷ text) at all, append-nil (take at buf))
+
+pub put_stored : (text buf : List ℕ) (at : ℕ) → at ≤ length buf → take (behind buf at (length text)) (written buf at text) ≡ put (length buf) (take at buf) text
+unfolding put written
+put_stored text buf at h = rw (length-take-le at buf h) (stored text buf at h)

@@ -1,5 +1,5 @@
 // Bytes in a script: `x` and two hex digits for each.
-ghost use Rattle.std.specs.Prelude.{◌≡◌, ◌+◌, ◌-◌, ◌*◌, ◌≤◌, ◌<◌, length};
+ghost use Rattle.std.specs.Prelude.{◌≡◌, ◌≤◌, ◌<◌, length};
 ghost use Rattle.script_words.specs.Text.{is_hex, hex_value, all_hex, bytes_word, bytes_of};
 ghost use Rattle.script_words.specs.Written.{written, behind};
 
@@ -9,68 +9,35 @@ pub const BYTES_MOST: usize = 600;
 fn is_hex(b: u8) -> bool
     ensures { result ≡ is_hex b }
 {
-    if b < b'0' {
-        return false;
-    }
-    if b <= b'9' {
-        return true;
-    }
-    if b < b'a' {
-        return false;
-    }
-    b <= b'f'
+    matches!(b, b'0'..=b'9' | b'a'..=b'f')
 }
 
 // The value of a hex digit; 0 for any other byte.
 fn hex_value(b: u8) -> u8
     ensures { (result ≡ hex_value b) × (result < 16) }
 {
-    if b < b'0' {
-        return 0;
+    match b {
+        b'0'..=b'9' => b - b'0',
+        b'a'..=b'f' => b - b'a' + 10,
+        _ => 0,
     }
-    if b <= b'9' {
-        return b - b'0';
-    }
-    if b < b'a' {
-        return 0;
-    }
-    if b'f' < b {
-        return 0;
-    }
-    b - 87
 }
 
 fn all_hex(s: &[u8]) -> bool
     ensures { result ≡ all_hex s.now }
 {
-    let mut i = 0;
-    while i < s.len() {
-        if !is_hex(s[i]) {
-            return false;
-        }
-        i += 1;
-    }
-    true
+    s.iter().all(|b| is_hex(*b))
 }
 
 // Whether a word stands for bytes.
+#[tactic(auto, unfolding(crate::specs::Text::bytes_word))]
 pub fn is_bytes(word: &[u8]) -> bool
     ensures { result ≡ bytes_word word.now }
 {
-    let n = word.len();
-    if n == 0 {
+    let [b'x', digits @ ..] = word else {
         return false;
-    }
-    if word[0] != b'x' {
-        return false;
-    }
-    if n % 2 == 0 {
-        return false;
-    }
-    if 2 * BYTES_MOST + 1 < n {
-        return false;
-    }
-    all_hex(&word[1..])
+    };
+    digits.len() % 2 == 0 && digits.len() <= 2 * BYTES_MOST && all_hex(digits)
 }
 
 // The bytes that a word stands for, put into a buffer from a place on as far as it reaches; the place behind. None for the empty word, and
@@ -81,21 +48,15 @@ pub fn unhex(word: &[u8], out: &mut [u8], at: usize) -> usize
     if out.len() < at {
         return out.len();
     }
-    if 2 * BYTES_MOST + 1 < word.len() {
+    let [_, digits @ ..] = word else {
+        return at;
+    };
+    if 2 * BYTES_MOST < digits.len() {
         return at;
     }
-    let mut p = at;
-    let mut i = 1;
-    while p < out.len() {
-        if word.len() < i {
-            return p;
-        }
-        if word.len() - i < 2 {
-            return p;
-        }
-        out[p] = hex_value(word[i]) * 16 + hex_value(word[i + 1]);
-        p += 1;
-        i += 2;
+    let n = (digits.len() / 2).min(out.len() - at);
+    for i in 0..n {
+        out[at + i] = hex_value(digits[2 * i]) * 16 + hex_value(digits[2 * i + 1]);
     }
-    p
+    at + n
 }

@@ -1,5 +1,5 @@
-// The words of a script's line (docs/SCRIPT.md): numbers, bytes and lists are read, and text, numbers and bytes are written into a lent
-// buffer. Any input is taken, and nothing outside the lent buffers is touched.
+// The words of a script's line (docs/SCRIPT.md): numbers, bytes and lists are read, and text, numbers and bytes are put out. Any input is
+// taken, and nothing outside the lent buffers is touched.
 #![tactic(auto)]
 
 mod bytes;
@@ -10,6 +10,6 @@ mod words;
 
 pub use bytes::{BYTES_MOST, is_bytes, unhex};
 pub use list::{LIST_ROOM, is_list, read_list};
-pub use number::{Number, Sender, read_address, read_number};
-pub use put::{put_byte, put_hex, put_number, put_text};
-pub use words::{WORDS_MOST, Words, place_of, split, word};
+pub use number::{read_address, read_number};
+pub use put::Output;
+pub use words::{WORDS_MOST, Words, place_of, split};

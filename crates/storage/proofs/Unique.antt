@@ -4,8 +4,8 @@ use mathlib.Core.Path.{◌≡◌, sym, ◌∙◌}
 use mathlib.Core.List.{List}
 use Prim.Native.Nat.{ℕ}
 use Rattle.messages.specs.Message.{Key, Value}
-use Rattle.storage.specs.declared.GotValue.{GotValue}
-use Rattle.storage.specs.declared.Done.{Done}
+use Rattle.std.specs.Prelude.{Option, Result}
+use Rattle.messages.specs.declared.answer.Refusal.{Refusal}
 use Rattle.storage.specs.declared.Change.{Change}
 use Rattle.storage.specs.Operations.{ValueGot, KeySet}
 use Rattle.storage.proofs.get_highest_seen.Reads as getHighestSeen
@@ -21,14 +21,14 @@ get_highest_seen_once κs args r s e f p q = p ∙ sym q
 pub get_accepted_ballot_once : (κs : _) (args : _) (r s : _) (e f : _) → getAcceptedBallot.Post κs args r e → getAcceptedBallot.Post κs args s f → r ≡ s
 get_accepted_ballot_once κs args r s e f p q = p ∙ sym q
 
-value_got_once : (t : List ℕ) (n : ℕ) (k : Key) (a : List ℕ) (r s : GotValue) (a' b' : List ℕ) → ValueGot t n k a r a' → ValueGot t n k a s b' → (r ≡ s) × (a' ≡ b')
+value_got_once : (t : List ℕ) (n : ℕ) (k : Key) (a : List ℕ) (r s : Result (Option ℕ) Refusal) (a' b' : List ℕ) → ValueGot t n k a r a' → ValueGot t n k a s b' → (r ≡ s) × (a' ≡ b')
 value_got_once t n k a r s a' b' p q = (p.answer ∙ sym q.answer, p.area ∙ sym q.area)
 
 -- the area is the fourth argument
 pub get_accepted_value_once : (κs : _) (args : _) (r s : _) (e f : _) → getAcceptedValue.Post κs args r e → getAcceptedValue.Post κs args s f → (r ≡ s) × (e.1.1.1.0.now ≡ f.1.1.1.0.now)
 get_accepted_value_once κs args r s e f p q = value_got_once _ _ _ _ _ _ _ _ p q
 
-key_set_once : (t : List ℕ) (n : ℕ) (k : Key) (c : Change) (v : Value) (d x : Done) (t' u' : List ℕ) → KeySet t n k c v d t' → KeySet t n k c v x u' → (d ≡ x) × (t' ≡ u')
+key_set_once : (t : List ℕ) (n : ℕ) (k : Key) (c : Change) (v : Value) (d x : Result (Unit {0}) Refusal) (t' u' : List ℕ) → KeySet t n k c v d t' → KeySet t n k c v x u' → (d ≡ x) × (t' ≡ u')
 key_set_once t n k c v d x t' u' p q = (p.done ∙ sym q.done, p.table ∙ sym q.table)
 
 -- the table is the first

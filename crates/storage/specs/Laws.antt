@@ -1,31 +1,42 @@
 -- Which case of a get or of a set the code is in, by what it has seen of the table and of the key.
 -- Assumes nothing.
-use Rattle.std.specs.Prelude.{◌≡◌, refl, Bool, true, false, not, ◌||◌, List, [], ◌∷◌, ℕ, ◌+◌, ◌*◌, ◌≤◌, length}
+use Rattle.std.specs.Prelude.{◌≡◌, refl, Bool, true, false, not, ◌||◌, List, [], ◌∷◌, ℕ}
 use Rattle.std.proofs.Common.{sym, ◌∙◌}
 use Rattle.std.proofs.Math.Path.{ap}
-use Rattle.std.specs.Prelude.{Option, None, Some}
+use Rattle.std.specs.Prelude.{Option, None, Some, Result, Ok, Err}
 use Rattle.messages.specs.declared.answer.Refusal.{Refusal}
 use Rattle.messages.specs.Message.{Key, Value}
 use Rattle.messages.specs.Limits.{key_fits, register_fits}
-use Rattle.messages.specs.Refusals.{test, pick_first, first_due}
+use Rattle.messages.specs.Refusals.{Test, test, pick_first, first_due}
 use Rattle.storage_block.specs.Block.{Register, fresh, readable, register_with, image}
 use Rattle.storage_search.specs.declared.Found.{Found}
 use Rattle.storage_search.specs.Table.{is_sized, none_bad, block_at, with_block, slots, where_is, is_twice, is_full, register_by, Lent}
-use Rattle.storage_search.specs.Keys.{place_known, room_in, readable_in, register_known, register_new}
-use Rattle.storage.specs.declared.Done.{Done}
+use Rattle.storage_search.specs.Keys.{place_known, readable_in, register_known, register_new}
 use Rattle.storage.specs.declared.Change.{Change}
-use Rattle.storage.specs.declared.Place.{Place}
-use Rattle.storage.specs.declared.Held.{Held}
-use Rattle.storage.specs.declared.Lookup.{Lookup}
-use Rattle.storage.specs.Operations.{key_tests, register_on, place_by, place_of, lookup_by, lookup, changed, disordered, register_tests, done_by, block_by, next_on, set_tests, placed_at, KeySet, BlockSet, or_no_room, full_by}
+use Rattle.storage.specs.Operations.{refused_or, table_answer, key_tests, block_by_place, register_on, changed, disordered, register_tests, block_by, next_on, set_tests, placed_at, KeySet, BlockSet, or_no_room, full_by}
 
 -- ---- what the two tests of a table have shown
 
-pub sized_by : (t : List ℕ) (n : ℕ) (s : Bool) → s ≡ is_sized t n → s ≡ true → is_sized t n ≡ true
-sized_by t n s es hs = sym es ∙ hs
+abbrev tested : Bool → Bool → Result (Unit {0}) Refusal
+tested s b = refused_or (first_due (test (not s) Refusal.AreaSize ∷ test (not b) Refusal.Damaged ∷ [])) tt
 
-pub lent_by : (t : List ℕ) (n : ℕ) (s d : Bool) → s ≡ is_sized t n → s ≡ true → d ≡ none_bad (slots t n) → d ≡ true → Lent t n
-lent_by t n s d es hs ed hd = record { sized = sym es ∙ hs; sound = sym ed ∙ hd }
+tested_sized : (s b : Bool) → Ok tt ≡ tested s b → s ≡ true
+tested_sized false b e = cc
+tested_sized true b e = refl
+
+tested_sound : (s b : Bool) → Ok tt ≡ tested s b → b ≡ true
+tested_sound false b e = cc
+tested_sound true false e = cc
+tested_sound true true e = refl
+
+pub lent_by : (t : List ℕ) (n : ℕ) → Ok tt ≡ table_answer t n → Lent t n
+lent_by t n e = record { sized = tested_sized (is_sized t n) (none_bad (slots t n)) e; sound = tested_sound (is_sized t n) (none_bad (slots t n)) e }
+
+-- what they refuse is refused first
+refused_first : (s b w v : Bool) (l : List Test) (x : Refusal) → Err x ≡ tested s b → first_due (test (not s) Refusal.AreaSize ∷ test (not b || w || v) Refusal.Damaged ∷ l) ≡ Some x
+refused_first false b w v l x e = cc
+refused_first true false w v l x e = cc
+refused_first true true w v l x e = cc
 
 -- ---- the register of a key, by where it is
 
@@ -40,115 +51,64 @@ module _ (t : List ℕ) (n : ℕ) (k : Key) where
   pub register_taken : (i : ℕ) → Lent t n → where_is k (slots t n) ≡ Found.Free i → register_on t n k ≡ register_with k (block_at t i)
   register_taken i lent e = register_on_lem (Found.Free i) e ∙ sym (register_new t n k i lent e)
 
--- ---- what the place that was found says
+-- ---- what a get says, by the key's block
 
-known_due : (o : Option Refusal) (f g : Found) → place_by o f ≡ Place.Known g → o ≡ None
-known_due None f g e = refl
-known_due (Some x) f g e = cc
+due_sized : (s b w l : Bool) → first_due (test (not s) Refusal.AreaSize ∷ test (not b || w) Refusal.Damaged ∷ test (not l) Refusal.OverLimit ∷ []) ≡ None → s ≡ true
+due_sized false b w l e = cc
+due_sized true b w l e = refl
 
-known_found : (o : Option Refusal) (f g : Found) → place_by o f ≡ Place.Known g → f ≡ g
-known_found None f g e = cc
-known_found (Some x) f g e = cc
+due_sound : (s b w l : Bool) → first_due (test (not s) Refusal.AreaSize ∷ test (not b || w) Refusal.Damaged ∷ test (not l) Refusal.OverLimit ∷ []) ≡ None → b ≡ true
+due_sound false b w l e = cc
+due_sound true false w l e = cc
+due_sound true true w l e = refl
 
-refused_due : (o : Option Refusal) (f : Found) (x : Refusal) → place_by o f ≡ Place.Refused x → o ≡ Some x
-refused_due None f x e = cc
-refused_due (Some y) f x e = cc
+-- the register that a block has for a key, or no block
+abbrev pub register_from : Key → Option (List ℕ) → Register
+register_from k (Some b) = register_with k b
+register_from k None = fresh k
 
-searched_sized : (s b w l : Bool) → first_due (test (not s) Refusal.AreaSize ∷ test (not b || w) Refusal.Damaged ∷ test (not l) Refusal.OverLimit ∷ []) ≡ None → s ≡ true
-searched_sized false b w l e = cc
-searched_sized true b w l e = refl
-
-searched_sound : (s b w l : Bool) → first_due (test (not s) Refusal.AreaSize ∷ test (not b || w) Refusal.Damaged ∷ test (not l) Refusal.OverLimit ∷ []) ≡ None → b ≡ true
-searched_sound false b w l e = cc
-searched_sound true false w l e = cc
-searched_sound true true w l e = refl
-
--- a place that no test refuses
-pub record Known (t : List ℕ) (n : ℕ) (k : Key) (f : Found) : Type 0 where
-  pub due : first_due (key_tests t n k) ≡ None
-  pub lent : Lent t n
-  pub here : where_is k (slots t n) ≡ f
-
-module _ (t : List ℕ) (n : ℕ) (k : Key) (p : Place) (ep : p ≡ place_of t n k) where
-  pub refused_of : (x : Refusal) → p ≡ Place.Refused x → first_due (key_tests t n k) ≡ Some x
-  unfolding place_of
-  refused_of x e = refused_due (first_due (key_tests t n k)) (where_is k (slots t n)) x (sym ep ∙ e)
-
-  pub known_of : (f : Found) → p ≡ Place.Known f → Known t n k f
-  unfolding place_of
-  known_of f e =
-      let o = first_due (key_tests t n k) in
+module _ (t : List ℕ) (n : ℕ) (k : Key) (due : first_due (key_tests t n k) ≡ None) where
+  pub lent_due : Lent t n
+  lent_due =
       let w = where_is k (slots t n) in
-      let due = known_due o w f (sym ep ∙ e) in
-      let lent : Lent t n = record {
-        sized = searched_sized (is_sized t n) (none_bad (slots t n)) (is_twice w) (key_fits k) due;
-        sound = searched_sound (is_sized t n) (none_bad (slots t n)) (is_twice w) (key_fits k) due;
-      } in
-      record { due = due; lent = lent; here = known_found o w f (sym ep ∙ e) }
+      record {
+        sized = due_sized (is_sized t n) (none_bad (slots t n)) (is_twice w) (key_fits k) due;
+        sound = due_sound (is_sized t n) (none_bad (slots t n)) (is_twice w) (key_fits k) due;
+      }
 
-  module _ (f : Found) (i : ℕ) (e : p ≡ Place.Known f) (ei : f ≡ Found.At i) where
-    pub room_of : i * 512 + 512 ≤ length t
-    room_of =
-        let w = known_of f e in
-        room_in t n k i w.lent (place_known t n k i w.lent (w.here ∙ ei))
+  pub register_got : register_on t n k ≡ register_from k (block_by_place t (where_is k (slots t n)))
+  register_got = by (where_is k (slots t n)) refl
+    where
+      by : (f : Found) → where_is k (slots t n) ≡ f → register_on t n k ≡ register_from k (block_by_place t f)
+      by (Found.At i) e = register_here t n k i lent_due e
+      by (Found.Free i) e = register_on_lem t n k (Found.Free i) e
+      by Found.Full e = register_on_lem t n k Found.Full e
+      by Found.Twice e = register_on_lem t n k Found.Twice e
 
-    pub readable_of : readable (block_at t i) ≡ true
-    readable_of =
-        let w = known_of f e in
-        readable_in t n k i w.lent (place_known t n k i w.lent (w.here ∙ ei))
-
--- ---- what a lookup says
-
-is_due : (o : Option Refusal) (r : Register) (h : Held) → lookup_by o r ≡ Lookup.Is h → o ≡ None
-is_due None r h e = refl
-is_due (Some x) r h e = cc
-
-is_seen : (o : Option Refusal) (r : Register) (h : Held) → lookup_by o r ≡ Lookup.Is h → h.seen ≡ r.seen
-is_seen None r h e = cc
-is_seen (Some x) r h e = cc
-
-is_accepted : (o : Option Refusal) (r : Register) (h : Held) → lookup_by o r ≡ Lookup.Is h → h.accepted ≡ r.accepted
-is_accepted None r h e = cc
-is_accepted (Some x) r h e = cc
-
-not_due : (o : Option Refusal) (r : Register) (x : Refusal) → lookup_by o r ≡ Lookup.Refused x → o ≡ Some x
-not_due None r x e = cc
-not_due (Some y) r x e = cc
-
--- ballots that no test refuses
-pub record Looked (t : List ℕ) (n : ℕ) (k : Key) (h : Held) : Type 0 where
-  pub due : first_due (key_tests t n k) ≡ None
-  pub seen : h.seen ≡ (register_on t n k).seen
-  pub accepted : h.accepted ≡ (register_on t n k).accepted
-
-module _ (t : List ℕ) (n : ℕ) (k : Key) (l : Lookup) (el : l ≡ lookup t n k) where
-  pub looked_of : (h : Held) → l ≡ Lookup.Is h → Looked t n k h
-  unfolding lookup
-  looked_of h e =
-      let o = first_due (key_tests t n k) in
-      let r = register_on t n k in
-      record { due = is_due o r h (sym el ∙ e); seen = is_seen o r h (sym el ∙ e); accepted = is_accepted o r h (sym el ∙ e) }
-
-  pub unlooked_of : (x : Refusal) → l ≡ Lookup.Refused x → first_due (key_tests t n k) ≡ Some x
-  unfolding lookup
-  unlooked_of x e = not_due (first_due (key_tests t n k)) (register_on t n k) x (sym el ∙ e)
+  pub readable_got : (b : List ℕ) → Some b ≡ block_by_place t (where_is k (slots t n)) → readable b ≡ true
+  readable_got b e = by (where_is k (slots t n)) refl e
+    where
+      by : (f : Found) → where_is k (slots t n) ≡ f → Some b ≡ block_by_place t f → readable b ≡ true
+      by (Found.At i) h e' =
+          let same : b ≡ block_at t i = cc in
+          rw same (readable_in t n k i lent_due (place_known t n k i lent_due h))
+      by (Found.Free i) h e' = cc
+      by Found.Full h e' = cc
+      by Found.Twice h e' = cc
 
 -- ---- a set, by where the key is
 
 module _ (t : List ℕ) (n : ℕ) (k : Key) (c : Change) (v : Value) where
   -- a set, by its refusal, the place of its key and its register
-  pub key_set : (o : Option Refusal) (f : Found) (r : Register) (d : Done) (t' : List ℕ) → first_due (set_tests t n k c v) ≡ o → where_is k (slots t n) ≡ f → next_on t n k c v ≡ r → d ≡ done_by o → t' ≡ block_by o t (placed_at t f r) → KeySet t n k c v d t'
+  pub key_set : (o : Option Refusal) (f : Found) (r : Register) (d : Result (Unit {0}) Refusal) (t' : List ℕ) → first_due (set_tests t n k c v) ≡ o → where_is k (slots t n) ≡ f → next_on t n k c v ≡ r → d ≡ refused_or o tt → t' ≡ block_by o t (placed_at t f r) → KeySet t n k c v d t'
   key_set o f r d t' eo ef er ed et = record { done = rw eo ed; table = rw (eo, ef, er) et }
 
   -- a refusal leaves every byte
-  pub set_refused : (x : Refusal) → first_due (set_tests t n k c v) ≡ Some x → KeySet t n k c v (Done.Refused x) t
-  set_refused x e = key_set (Some x) (where_is k (slots t n)) (next_on t n k c v) (Done.Refused x) t e refl refl refl refl
+  pub set_refused : (x : Refusal) → first_due (set_tests t n k c v) ≡ Some x → KeySet t n k c v (Err x) t
+  set_refused x e = key_set (Some x) (where_is k (slots t n)) (next_on t n k c v) (Err x) t e refl refl refl refl
 
-  pub set_size : is_sized t n ≡ false → KeySet t n k c v (Done.Refused Refusal.AreaSize) t
-  set_size h = set_refused Refusal.AreaSize (rw h)
-
-  pub set_damaged : is_sized t n ≡ true → none_bad (slots t n) ≡ false → KeySet t n k c v (Done.Refused Refusal.Damaged) t
-  set_damaged h d = set_refused Refusal.Damaged (rw (h, d))
+  pub set_unsound : (x : Refusal) → Err x ≡ table_answer t n → KeySet t n k c v (Err x) t
+  set_unsound x e = set_refused x (refused_first (is_sized t n) (none_bad (slots t n)) _ _ (test (not (register_fits k (next_on t n k c v).value)) Refusal.OverLimit ∷ test (is_full (where_is k (slots t n))) Refusal.NoRoom ∷ []) x e)
 
   next-key : (r : Register) → (changed c v r).key ≡ r.key
   next-key r = go c
@@ -163,7 +123,7 @@ module _ (t : List ℕ) (n : ℕ) (k : Key) (c : Change) (v : Value) where
   next_is r e = ap (changed c v) e
 
   module _ (lent : Lent t n) where
-    pub set_twice : where_is k (slots t n) ≡ Found.Twice → KeySet t n k c v (Done.Refused Refusal.Damaged) t
+    pub set_twice : where_is k (slots t n) ≡ Found.Twice → KeySet t n k c v (Err Refusal.Damaged) t
     set_twice e = set_refused Refusal.Damaged (rw (lent.sized, lent.sound, e))
 
     -- the tests of the register, and room for it
@@ -171,7 +131,7 @@ module _ (t : List ℕ) (n : ℕ) (k : Key) (c : Change) (v : Value) where
     due_set f r e one_block er ek = rw (lent.sized, lent.sound, e, one_block, er, ek)
 
     -- a register that a block takes
-    set_block : (f : Found) (i : ℕ) (d : Done) (t' : List ℕ) → where_is k (slots t n) ≡ f → is_twice f ≡ false → is_full f ≡ false → ((r : Register) → placed_at t f r ≡ with_block t i (image r)) → register_on t n k ≡ register_with k (block_at t i) → BlockSet (changed c v (register_with k (block_at t i))) t i d t' → KeySet t n k c v d t'
+    set_block : (f : Found) (i : ℕ) (d : Result (Unit {0}) Refusal) (t' : List ℕ) → where_is k (slots t n) ≡ f → is_twice f ≡ false → is_full f ≡ false → ((r : Register) → placed_at t f r ≡ with_block t i (image r)) → register_on t n k ≡ register_with k (block_at t i) → BlockSet (changed c v (register_with k (block_at t i))) t i d t' → KeySet t n k c v d t'
     set_block f i d t' e one_block room placed here b =
         let held = register_with k (block_at t i) in
         let r = changed c v held in
@@ -180,20 +140,20 @@ module _ (t : List ℕ) (n : ℕ) (k : Key) (c : Change) (v : Value) where
         let due : first_due (set_tests t n k c v) ≡ o = due_set f r e one_block er (next-key held) ∙ rw room in
         key_set o f r d t' due e er b.done (b.table ∙ ap (block_by o t) (sym (placed r)))
 
-    pub set_known : (i : ℕ) (d : Done) (t' : List ℕ) → where_is k (slots t n) ≡ Found.At i → BlockSet (changed c v (register_with k (block_at t i))) t i d t' → KeySet t n k c v d t'
+    pub set_known : (i : ℕ) (d : Result (Unit {0}) Refusal) (t' : List ℕ) → where_is k (slots t n) ≡ Found.At i → BlockSet (changed c v (register_with k (block_at t i))) t i d t' → KeySet t n k c v d t'
     set_known i d t' e = set_block (Found.At i) i d t' e refl refl (λ r. refl) (register_here t n k i lent e)
 
-    pub set_new : (i : ℕ) (d : Done) (t' : List ℕ) → where_is k (slots t n) ≡ Found.Free i → BlockSet (changed c v (register_with k (block_at t i))) t i d t' → KeySet t n k c v d t'
+    pub set_new : (i : ℕ) (d : Result (Unit {0}) Refusal) (t' : List ℕ) → where_is k (slots t n) ≡ Found.Free i → BlockSet (changed c v (register_with k (block_at t i))) t i d t' → KeySet t n k c v d t'
     set_new i d t' e = set_block (Found.Free i) i d t' e refl refl (λ r. refl) (register_taken t n k i lent e)
 
-    pub set_full : (d : Done) → where_is k (slots t n) ≡ Found.Full → d ≡ full_by (changed c v (fresh k)) → KeySet t n k c v d t
+    pub set_full : (d : Result (Unit {0}) Refusal) → where_is k (slots t n) ≡ Found.Full → d ≡ full_by (changed c v (fresh k)) → KeySet t n k c v d t
     set_full d e ed =
         let r = changed c v (fresh k) in
         let er : next_on t n k c v ≡ r = next_is (fresh k) (register_on_lem t n k Found.Full e) in
         let o = pick_first (disordered r) Refusal.Damaged (pick_first (not (register_fits r.key r.value)) Refusal.OverLimit (Some Refusal.NoRoom)) in
         key_set o Found.Full r d t (due_set Found.Full r e refl er (next-key (fresh k))) e er (ed ∙ refuses (disordered r) (not (register_fits r.key r.value))) (stays o)
       where
-        refuses : (x y : Bool) → or_no_room (pick_first x Refusal.Damaged (pick_first y Refusal.OverLimit None)) ≡ done_by (pick_first x Refusal.Damaged (pick_first y Refusal.OverLimit (Some Refusal.NoRoom)))
+        refuses : (x y : Bool) → or_no_room (pick_first x Refusal.Damaged (pick_first y Refusal.OverLimit None)) ≡ refused_or (pick_first x Refusal.Damaged (pick_first y Refusal.OverLimit (Some Refusal.NoRoom))) tt
         refuses true y = refl
         refuses false true = refl
         refuses false false = refl

@@ -1,7 +1,8 @@
 -- The crate's six storage operations on a lent table: what each answers, and every byte after it.
 -- Assumes nothing.
 use Rattle.std.specs.Prelude.{◌≡◌, Bool, not, ◌||◌, List, [], ◌∷◌, ℕ, eqb, length}
-use Rattle.std.specs.Prelude.{Option, None, Some}
+use Rattle.std.specs.Prelude.{Option, None, Some, Result, Ok, Err, MatchResult, option_map}
+use denote.Ref.{Bor}
 use Rattle.std.proofs.lemmas.List.Edits.{sets}
 use Rattle.messages.specs.declared.Ballot.{Ballot}
 use Rattle.messages.specs.declared.answer.Refusal.{Refusal}
@@ -12,15 +13,25 @@ use Rattle.messages.specs.Refusals.{Test, test, first_due}
 use Rattle.messages.specs.Answers.{bytes_of}
 use Rattle.storage_block.specs.Block.{Register, register, image}
 use Rattle.storage_search.specs.declared.Found.{Found}
-use Rattle.storage_search.specs.Table.{is_sized, with_block, slots, none_bad, where_is, is_twice, is_full, register_by}
-use Rattle.storage.specs.declared.GotBallot.{GotBallot}
-use Rattle.storage.specs.declared.GotValue.{GotValue}
-use Rattle.storage.specs.declared.Done.{Done}
+use Rattle.storage_search.specs.Table.{is_sized, block_at, with_block, slots, none_bad, where_is, is_twice, is_full, register_by}
 use Rattle.storage.specs.declared.Change.{Change}
-use Rattle.storage.specs.declared.Place.{Place}
-use Rattle.storage.specs.declared.Lookup.{Lookup}
+
+-- what is due, or else an answer
+abbrev pub refused_or : {A : Type 0} → Option Refusal → A → Result A Refusal
+refused_or (Some x) a = Err x
+refused_or None a = Ok a
 
 -- ---- the three gets
+
+-- refusals 1 and 2 for a table, in rank order
+abbrev pub table_tests : List ℕ → ℕ → List Test
+table_tests t n =
+    test (not (is_sized t n)) Refusal.AreaSize
+    ∷ test (not (none_bad (slots t n))) Refusal.Damaged
+    ∷ []
+
+abbrev pub table_answer : List ℕ → ℕ → Result (Unit {0}) Refusal
+table_answer t n = refused_or (first_due (table_tests t n)) tt
 
 -- refusals 1, 2 and 4 for a key, in rank order
 abbrev pub key_tests : List ℕ → ℕ → Key → List Test
@@ -34,25 +45,17 @@ key_tests t n k =
 unfoldable pub register_on : List ℕ → ℕ → Key → Register
 register_on t n k = register_by k (slots t n) (where_is k (slots t n))
 
-abbrev pub got_ballot : Option Refusal → Ballot → GotBallot
-got_ballot (Some x) b = GotBallot.Refused x
-got_ballot None b = GotBallot.Is b
-
 -- `get_highest_seen`
-unfoldable pub highest_seen : List ℕ → ℕ → Key → GotBallot
-highest_seen t n k = got_ballot (first_due (key_tests t n k)) (register_on t n k).seen
+unfoldable pub highest_seen : List ℕ → ℕ → Key → Result Ballot Refusal
+highest_seen t n k = refused_or (first_due (key_tests t n k)) (register_on t n k).seen
 
 -- `get_accepted_ballot`
-unfoldable pub accepted_ballot : List ℕ → ℕ → Key → GotBallot
-accepted_ballot t n k = got_ballot (first_due (key_tests t n k)) (register_on t n k).accepted
+unfoldable pub accepted_ballot : List ℕ → ℕ → Key → Result Ballot Refusal
+accepted_ballot t n k = refused_or (first_due (key_tests t n k)) (register_on t n k).accepted
 
-abbrev pub value_answer : Option Value → GotValue
-value_answer None = GotValue.None
-value_answer (Some v) = GotValue.Some (length v)
-
-abbrev pub got_value : Option Refusal → Option Value → GotValue
-got_value (Some x) v = GotValue.Refused x
-got_value None v = value_answer v
+abbrev pub value_answer : Option Value → Option ℕ
+value_answer None = None
+value_answer (Some v) = Some (length v)
 
 abbrev pub value_written : Option Refusal → List ℕ → Option Value → List ℕ
 value_written (Some x) a v = a
@@ -63,8 +66,8 @@ abbrev pub value_tests : List ℕ → ℕ → Key → List ℕ → List Test
 value_tests t n k a = test (not (eqb (length a) value_most)) Refusal.AreaSize ∷ key_tests t n k
 
 -- `get_accepted_value`: the answer, and every byte of the area
-pub record ValueGot (t : List ℕ) (n : ℕ) (k : Key) (a : List ℕ) (r : GotValue) (a' : List ℕ) : Type 0 where
-  pub answer : r ≡ got_value (first_due (value_tests t n k a)) (register_on t n k).value
+pub record ValueGot (t : List ℕ) (n : ℕ) (k : Key) (a : List ℕ) (r : Result (Option ℕ) Refusal) (a' : List ℕ) : Type 0 where
+  pub answer : r ≡ refused_or (first_due (value_tests t n k a)) (value_answer (register_on t n k).value)
   pub area : a' ≡ value_written (first_due (value_tests t n k a)) a (register_on t n k).value
 
 -- ---- the three sets
@@ -86,17 +89,13 @@ register_tests r =
     ∷ test (not (register_fits r.key r.value)) Refusal.OverLimit
     ∷ []
 
-abbrev pub done_by : Option Refusal → Done
-done_by (Some x) = Done.Refused x
-done_by None = Done.Stored
-
 abbrev pub block_by : Option Refusal → List ℕ → List ℕ → List ℕ
 block_by (Some x) old new = old
 block_by None old new = new
 
 -- a register stored in one block
-pub record RegisterSet (r : Register) (b : List ℕ) (d : Done) (b' : List ℕ) : Type 0 where
-  pub done : d ≡ done_by (first_due (register_tests r))
+pub record RegisterSet (r : Register) (b : List ℕ) (d : Result (Unit {0}) Refusal) (b' : List ℕ) : Type 0 where
+  pub done : d ≡ refused_or (first_due (register_tests r)) tt
   pub block : b' ≡ block_by (first_due (register_tests r)) b (image r)
 
 -- what the change makes of the key's register in the table
@@ -120,35 +119,35 @@ placed_at t Found.Full r = t
 placed_at t Found.Twice r = t
 
 -- `set_highest_seen`, `set_accepted_ballot` and `set_accepted_value`: the answer, and every byte of the table
-pub record KeySet (t : List ℕ) (n : ℕ) (k : Key) (c : Change) (v : Value) (d : Done) (t' : List ℕ) : Type 0 where
-  pub done : d ≡ done_by (first_due (set_tests t n k c v))
+pub record KeySet (t : List ℕ) (n : ℕ) (k : Key) (c : Change) (v : Value) (d : Result (Unit {0}) Refusal) (t' : List ℕ) : Type 0 where
+  pub done : d ≡ refused_or (first_due (set_tests t n k c v)) tt
   pub table : t' ≡ block_by (first_due (set_tests t n k c v)) t (placed_at t (where_is k (slots t n)) (next_on t n k c v))
 
 -- ---- for the functions below the public ones
 
-abbrev pub place_by : Option Refusal → Found → Place
-place_by (Some x) f = Place.Refused x
-place_by None f = Place.Known f
+-- the block of a key
+abbrev pub block_by_place : List ℕ → Found → Option (List ℕ)
+block_by_place t (Found.At i) = Some (block_at t i)
+block_by_place t (Found.Free i) = None
+block_by_place t Found.Full = None
+block_by_place t Found.Twice = None
 
-unfoldable pub place_of : List ℕ → ℕ → Key → Place
-place_of t n k = place_by (first_due (key_tests t n k)) (where_is k (slots t n))
-
-abbrev pub lookup_by : Option Refusal → Register → Lookup
-lookup_by (Some x) r = Lookup.Refused x
-lookup_by None r = Lookup.Is (record { seen = r.seen; accepted = r.accepted })
-
-unfoldable pub lookup : List ℕ → ℕ → Key → Lookup
-lookup t n k = lookup_by (first_due (key_tests t n k)) (register_on t n k)
+-- a key's block, if it has one, or why that can't be said
+abbrev pub BlockOf : List ℕ → ℕ → Key → Result (Option (Bor (List ℕ))) Refusal → Type 0
+BlockOf t n k r =
+    MatchResult r
+    (λ o. (first_due (key_tests t n k) ≡ None) × (option_map (λ b. b.now) o ≡ block_by_place t (where_is k (slots t n))))
+    (λ x. first_due (key_tests t n k) ≡ Some x)
 
 -- a register stored in block i of the table
-pub record BlockSet (r : Register) (t : List ℕ) (i : ℕ) (d : Done) (t' : List ℕ) : Type 0 where
-  pub done : d ≡ done_by (first_due (register_tests r))
+pub record BlockSet (r : Register) (t : List ℕ) (i : ℕ) (d : Result (Unit {0}) Refusal) (t' : List ℕ) : Type 0 where
+  pub done : d ≡ refused_or (first_due (register_tests r)) tt
   pub table : t' ≡ block_by (first_due (register_tests r)) t (with_block t i (image r))
 
 -- a register that no block takes
-abbrev pub or_no_room : Option Refusal → Done
-or_no_room (Some x) = Done.Refused x
-or_no_room None = Done.Refused Refusal.NoRoom
+abbrev pub or_no_room : Option Refusal → Result (Unit {0}) Refusal
+or_no_room (Some x) = Err x
+or_no_room None = Err Refusal.NoRoom
 
-abbrev pub full_by : Register → Done
+abbrev pub full_by : Register → Result (Unit {0}) Refusal
 full_by r = or_no_room (first_due (register_tests r))

@@ -2,235 +2,142 @@
 // value; a set takes the lowest free block for a new key. specs/Operations.antt says what each answers and stores.
 #![tactic(auto)]
 
-ghost use Rattle.std.specs.Prelude.{◌≡◌, true, cond, [], ◌+◌, ◌*◌, ◌≤◌, length};
-ghost use Rattle.std.proofs.lemmas.List.Edits.{sets};
+ghost use Rattle.std.specs.Prelude.{◌≡◌, true, [], ◌+◌, ◌*◌, ◌≤◌, length};
 ghost use Rattle.messages.specs.Message.{given};
-ghost use Rattle.messages.specs.Limits.{key_fits, value_most};
-ghost use Rattle.messages.specs.Answers.{bytes_of};
-ghost use Rattle.storage_block.specs.Block.{block_bytes, readable, register_of, register_with, register, fresh};
+ghost use Rattle.storage_block.specs.Block.{block_bytes, readable, register_with, register, fresh};
 ghost use Rattle.storage_search.specs.Table.{block_at};
-ghost use Rattle.storage.specs.Operations.{place_of, lookup, highest_seen, accepted_ballot, value_answer, ValueGot, changed, RegisterSet, BlockSet, full_by, KeySet};
+ghost use Rattle.storage.specs.Operations.{table_answer, BlockOf, highest_seen, accepted_ballot, ValueGot, changed, RegisterSet, BlockSet, full_by, KeySet};
 
-use messages::{Ballot, KEY_MOST, OptionValue, Refusal, VALUE_MOST};
+use messages::{Ballot, KEY_MOST, Lent, Refusal, VALUE_MOST};
 use storage_block::BLOCK;
 use storage_search::Found;
-
-#[derive(Clone, Copy)]
-pub enum GotBallot {
-    Is(Ballot),
-    Refused(Refusal),
-}
-
-#[derive(Clone, Copy)]
-pub enum GotValue {
-    None,
-    // the value's length; its bytes stand at the front of the lent area
-    Some(usize),
-    Refused(Refusal),
-}
-
-#[derive(Clone, Copy)]
-pub enum Done {
-    Stored,
-    Refused(Refusal),
-}
+use storage_write::Register;
 
 // What a set changes of a register; a value's bytes are lent beside it.
 #[derive(Clone, Copy)]
 pub enum Change {
     HighestSeen(Ballot),
     AcceptedBallot(Ballot),
-    AcceptedValue(OptionValue),
+    AcceptedValue(Option<Lent>),
 }
 
 // The area that a value is handed back in.
 pub const VALUE_AREA: usize = VALUE_MOST;
 
-// Where a key is, or why that can't be said.
-#[derive(Clone, Copy)]
-enum Place {
-    Known(Found),
-    Refused(Refusal),
-}
-
-// The two ballots of a key.
-#[derive(Clone, Copy)]
-struct Held {
-    seen: Ballot,
-    accepted: Ballot,
-}
-
-#[derive(Clone, Copy)]
-enum Lookup {
-    Is(Held),
-    Refused(Refusal),
-}
-
-// A key that was looked for, if it is within the limits.
-fn within(key: &[u8], found: Found) -> Place
-    ensures { result ≡ cond (key_fits key.now) (Place.Known found) (Place.Refused Refusal.OverLimit) }
-{
-    if KEY_MOST < key.len() {
-        return Place::Refused(Refusal::OverLimit);
-    }
-    Place::Known(found)
-}
-
-// Where the key is, or refusal 1, 2 or 4.
-fn find(table: &[u8], registers: usize, key: &[u8]) -> Place
-    ensures { result ≡ place_of table.now registers key.now }
+// A table that may be searched, or refusal 1 or 2.
+fn sound(table: &[u8], registers: usize) -> Result<(), Refusal>
+    ensures { result ≡ table_answer table.now registers }
 {
     if !storage_search::is_sized(table, registers) {
-        return Place::Refused(Refusal::AreaSize);
+        return Err(Refusal::AreaSize);
     }
     if !storage_search::is_sound(table, registers) {
-        return Place::Refused(Refusal::Damaged);
+        return Err(Refusal::Damaged);
     }
+    Ok(())
+}
+
+// The key's block, if it has one, or refusal 1, 2 or 4.
+fn block_of<'a>(
+    table: &'a [u8],
+    registers: usize,
+    key: &[u8],
+) -> Result<Option<&'a [u8; BLOCK]>, Refusal>
+    ensures { BlockOf table.now registers key.now result }
+{
+    sound(table, registers)?;
     match storage_search::locate(table, registers, key) {
-        Found::At(i) => within(key, Found::At(i)),
-        Found::Free(i) => within(key, Found::Free(i)),
-        Found::Full => within(key, Found::Full),
-        Found::Twice => Place::Refused(Refusal::Damaged),
+        Found::Twice => Err(Refusal::Damaged),
+        _ if KEY_MOST < key.len() => Err(Refusal::OverLimit),
+        Found::At(i) => Ok(Some(&storage_search::blocks(table, registers)[i])),
+        Found::Free(_) | Found::Full => Ok(None),
     }
 }
 
-fn held_in(b: &[u8]) -> Held
-    requires { length b.now ≡ block_bytes }
-    ensures { (result.seen ≡ (register_of b.now).seen) × (result.accepted ≡ (register_of b.now).accepted) }
-{
-    Held {
-        seen: storage_block::highest_seen(b),
-        accepted: storage_block::accepted_ballot(b),
-    }
-}
-
-// The ballots of a key: those of its block, or 0.
-fn look(table: &[u8], registers: usize, key: &[u8]) -> Lookup
-    ensures { result ≡ lookup table.now registers key.now }
-{
-    let place = find(table, registers, key);
-    match place {
-        Place::Refused(r) => Lookup::Refused(r),
-        Place::Known(found) => match found {
-            Found::At(i) => {
-                let a = i * BLOCK;
-                Lookup::Is(held_in(&table[a..a + BLOCK]))
-            }
-            Found::Free(_) => Lookup::Is(Held {
-                seen: Ballot(0),
-                accepted: Ballot(0),
-            }),
-            Found::Full => Lookup::Is(Held {
-                seen: Ballot(0),
-                accepted: Ballot(0),
-            }),
-            Found::Twice => Lookup::Is(Held {
-                seen: Ballot(0),
-                accepted: Ballot(0),
-            }),
-        },
-    }
-}
-
-pub fn get_highest_seen(table: &[u8], registers: usize, key: &[u8]) -> GotBallot
+// This and the next are two of 01's six operations, by its names; each is one line over `block_of`.
+pub fn get_highest_seen(table: &[u8], registers: usize, key: &[u8]) -> Result<Ballot, Refusal>
     ensures { result ≡ highest_seen table.now registers key.now }
 {
-    match look(table, registers, key) {
-        Lookup::Is(held) => {
-            let seen = held.seen;
-            GotBallot::Is(seen)
-        }
-        Lookup::Refused(r) => GotBallot::Refused(r),
-    }
+    let block = block_of(table, registers, key)?;
+    Ok(block.map_or(Ballot(0), storage_block::highest_seen))
 }
 
-pub fn get_accepted_ballot(table: &[u8], registers: usize, key: &[u8]) -> GotBallot
+pub fn get_accepted_ballot(table: &[u8], registers: usize, key: &[u8]) -> Result<Ballot, Refusal>
     ensures { result ≡ accepted_ballot table.now registers key.now }
 {
-    match look(table, registers, key) {
-        Lookup::Is(held) => {
-            let accepted = held.accepted;
-            GotBallot::Is(accepted)
-        }
-        Lookup::Refused(r) => GotBallot::Refused(r),
-    }
+    let block = block_of(table, registers, key)?;
+    Ok(block.map_or(Ballot(0), storage_block::accepted_ballot))
 }
 
-// The value of a block that may be read, copied to the front of an area of 256 bytes.
-fn value_in(b: &[u8], area: &mut [u8]) -> GotValue
-    requires { (length b.now ≡ block_bytes) × (readable b.now ≡ true) × (length area.old ≡ value_most) }
-    ensures { (result ≡ value_answer (register_of b.now).value) × (area.new ≡ sets area.old 0 (bytes_of (register_of b.now).value)) }
-{
-    let len = storage_block::copy_value(b, area);
-    match storage_block::value_mark(b) {
-        OptionValue::None => GotValue::None,
-        OptionValue::Some => GotValue::Some(len),
-    }
-}
-
-// The accepted value of a key, put into the lent area of 256 bytes.
-pub fn get_accepted_value(table: &[u8], registers: usize, key: &[u8], area: &mut [u8]) -> GotValue
+// The accepted value of a key, put into the lent area of 256 bytes; its length, if there is one.
+pub fn get_accepted_value(
+    table: &[u8],
+    registers: usize,
+    key: &[u8],
+    area: &mut [u8],
+) -> Result<Option<usize>, Refusal>
     ensures { ValueGot table.now registers key.now area.old result area.new }
 {
-    if area.len() != VALUE_AREA {
-        return GotValue::Refused(Refusal::AreaSize);
-    }
-    let place = find(table, registers, key);
-    match place {
-        Place::Refused(r) => GotValue::Refused(r),
-        Place::Known(found) => match found {
-            Found::At(i) => {
-                let a = i * BLOCK;
-                value_in(&table[a..a + BLOCK], area)
-            }
-            Found::Free(_) => GotValue::None,
-            Found::Full => GotValue::None,
-            Found::Twice => GotValue::None,
-        },
+    let Some(area) = area.as_mut_array::<VALUE_AREA>() else {
+        return Err(Refusal::AreaSize);
+    };
+    let Some(b) = block_of(table, registers, key)? else {
+        return Ok(None);
+    };
+    let len = storage_block::copy_value(b, area);
+    match storage_block::value_mark(b) {
+        None => Ok(None),
+        Some(_) => Ok(Some(len)),
     }
 }
 
 // A register's block, if the register is within 01's limits and its accepted ballot is not above highest seen.
-fn write_register(
-    b: &mut [u8],
-    key: &[u8],
-    seen: Ballot,
-    accepted: Ballot,
-    value: OptionValue,
-    bytes: &[u8],
-) -> Done
-    requires { length b.old ≡ block_bytes }
-    ensures { RegisterSet (register key.now seen accepted (given value bytes.now)) b.old result b.new }
+fn write_register(b: &mut [u8; BLOCK], r: Register) -> Result<(), Refusal>
+    ensures { RegisterSet (register r.entry.key.now r.entry.seen r.entry.accepted (given r.entry.value r.entry.bytes.now)) b.old result b.new }
 {
-    if accepted.above(seen) {
-        return Done::Refused(Refusal::Damaged);
+    if r.accepted.above(r.seen) {
+        return Err(Refusal::Damaged);
     }
-    if !messages::register_fits(key, value, bytes) {
-        return Done::Refused(Refusal::OverLimit);
+    if !messages::register_fits(r.key, r.value, r.bytes) {
+        return Err(Refusal::OverLimit);
     }
-    storage_write::write(b, key, seen, accepted, value, bytes);
-    Done::Stored
+    storage_write::write(b, r);
+    Ok(())
 }
 
-// A change of the register in a block that holds the key or is free.
-fn set_in(b: &mut [u8], key: &[u8], change: Change, bytes: &[u8]) -> Done
+// A change of the register in a block that holds the key or is free. The array is made here and not in `set_at`: what `as_mut_array`
+// leaves is known to a proof only where the whole slice is a parameter.
+fn set_in(b: &mut [u8], key: &[u8], change: Change, bytes: &[u8]) -> Result<(), Refusal>
     requires { (length b.old ≡ block_bytes) × (readable b.old ≡ true) }
     ensures { RegisterSet (changed change bytes.now (register_with key.now b.old)) b.old result b.new }
 {
-    let seen = storage_block::highest_seen(b);
-    let accepted = storage_block::accepted_ballot(b);
-    let mark = storage_block::value_mark(b);
-    let mut old = [0u8; VALUE_MOST];
-    let len = storage_block::copy_value(b, &mut old);
+    let Some(b) = b.as_mut_array() else {
+        unreachable!()
+    };
+    let mut area = [0; VALUE_AREA];
+    let len = storage_block::copy_value(b, &mut area);
+    let r = Register {
+        key,
+        seen: storage_block::highest_seen(b),
+        accepted: storage_block::accepted_ballot(b),
+        value: storage_block::value_mark(b),
+        bytes: &area[..len],
+    };
     match change {
-        Change::HighestSeen(x) => write_register(b, key, x, accepted, mark, &old[0..len]),
-        Change::AcceptedBallot(x) => write_register(b, key, seen, x, mark, &old[0..len]),
-        Change::AcceptedValue(o) => write_register(b, key, seen, accepted, o, bytes),
+        Change::HighestSeen(seen) => write_register(b, Register { seen, ..r }),
+        Change::AcceptedBallot(accepted) => write_register(b, Register { accepted, ..r }),
+        Change::AcceptedValue(value) => write_register(b, Register { value, bytes, ..r }),
     }
 }
 
 // The same on block i of the table: that block alone is lent on.
-fn set_at(table: &mut [u8], i: usize, key: &[u8], change: Change, bytes: &[u8]) -> Done
+fn set_at(
+    table: &mut [u8],
+    i: usize,
+    key: &[u8],
+    change: Change,
+    bytes: &[u8],
+) -> Result<(), Refusal>
     requires { (i * block_bytes + block_bytes ≤ length table.old) × (readable (block_at table.old i) ≡ true) }
     ensures { BlockSet (changed change bytes.now (register_with key.now (block_at table.old i))) table.old i result table.new }
 {
@@ -239,65 +146,61 @@ fn set_at(table: &mut [u8], i: usize, key: &[u8], change: Change, bytes: &[u8]) 
 }
 
 // A change for a key that no block takes: what would refuse it on a spare free block refuses it first.
-fn set_full(key: &[u8], change: Change, bytes: &[u8]) -> Done
+fn set_full(key: &[u8], change: Change, bytes: &[u8]) -> Result<(), Refusal>
     ensures { result ≡ full_by (changed change bytes.now (fresh key.now)) }
 {
-    let mut spare = [0u8; BLOCK];
-    match set_in(&mut spare, key, change, bytes) {
-        Done::Stored => Done::Refused(Refusal::NoRoom),
-        Done::Refused(r) => Done::Refused(r),
-    }
+    let mut spare = [0; BLOCK];
+    set_in(&mut spare, key, change, bytes)?;
+    Err(Refusal::NoRoom)
 }
 
 // A change of a key's register.
-fn set(table: &mut [u8], registers: usize, key: &[u8], change: Change, bytes: &[u8]) -> Done
+fn set(
+    table: &mut [u8],
+    registers: usize,
+    key: &[u8],
+    change: Change,
+    bytes: &[u8],
+) -> Result<(), Refusal>
     ensures { KeySet table.old registers key.now change bytes.now result table.new }
 {
-    if !storage_search::is_sized(table, registers) {
-        return Done::Refused(Refusal::AreaSize);
-    }
-    if !storage_search::is_sound(table, registers) {
-        return Done::Refused(Refusal::Damaged);
-    }
+    sound(table, registers)?;
     match storage_search::locate(table, registers, key) {
-        Found::At(i) => set_at(table, i, key, change, bytes),
-        Found::Free(i) => set_at(table, i, key, change, bytes),
+        Found::At(i) | Found::Free(i) => set_at(table, i, key, change, bytes),
         Found::Full => set_full(key, change, bytes),
-        Found::Twice => Done::Refused(Refusal::Damaged),
+        Found::Twice => Err(Refusal::Damaged),
     }
 }
 
-pub fn set_highest_seen(table: &mut [u8], registers: usize, key: &[u8], ballot: Ballot) -> Done
+pub fn set_highest_seen(
+    table: &mut [u8],
+    registers: usize,
+    key: &[u8],
+    ballot: Ballot,
+) -> Result<(), Refusal>
     ensures { KeySet table.old registers key.now (Change.HighestSeen ballot) [] result table.new }
 {
-    set(
-        table,
-        registers,
-        key,
-        Change::HighestSeen(ballot),
-        &key[0..0],
-    )
+    set(table, registers, key, Change::HighestSeen(ballot), &[])
 }
 
-pub fn set_accepted_ballot(table: &mut [u8], registers: usize, key: &[u8], ballot: Ballot) -> Done
+pub fn set_accepted_ballot(
+    table: &mut [u8],
+    registers: usize,
+    key: &[u8],
+    ballot: Ballot,
+) -> Result<(), Refusal>
     ensures { KeySet table.old registers key.now (Change.AcceptedBallot ballot) [] result table.new }
 {
-    set(
-        table,
-        registers,
-        key,
-        Change::AcceptedBallot(ballot),
-        &key[0..0],
-    )
+    set(table, registers, key, Change::AcceptedBallot(ballot), &[])
 }
 
 pub fn set_accepted_value(
     table: &mut [u8],
     registers: usize,
     key: &[u8],
-    value: OptionValue,
+    value: Option<Lent>,
     bytes: &[u8],
-) -> Done
+) -> Result<(), Refusal>
     ensures { KeySet table.old registers key.now (Change.AcceptedValue value) bytes.now result table.new }
 {
     set(table, registers, key, Change::AcceptedValue(value), bytes)

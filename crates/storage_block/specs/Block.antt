@@ -9,7 +9,7 @@ use Rattle.messages.specs.Message.{Key, Value}
 use Rattle.messages.specs.Limits.{key_most, value_most}
 use Rattle.messages.specs.Answers.{marked, bytes_of}
 use Rattle.messages.specs.declared.Ballot.{Ballot}
-use Rattle.messages.specs.declared.OptionValue.{OptionValue}
+use Rattle.messages.specs.declared.Lent.{Lent}
 use Rattle.storage_block.specs.declared.BlockState.{BlockState}
 
 -- what the plant holds of one valve at one acceptor
@@ -108,12 +108,12 @@ register_with k b = register k (register_of b).seen (register_of b).accepted (re
 
 -- ---- writing a block
 
-abbrev pub mark_byte : OptionValue → ℕ
-mark_byte OptionValue.None = 0
-mark_byte OptionValue.Some = 1
+abbrev pub mark_byte : Option Lent → ℕ
+mark_byte None = 0
+mark_byte (Some mark) = 1
 
 -- bytes 0 to 23: the lengths, the mark and the ballots
-unfoldable pub front : ℕ → Ballot → Ballot → OptionValue → ℕ → List ℕ
+unfoldable pub front : ℕ → Ballot → Ballot → Option Lent → ℕ → List ℕ
 front keyLen seen accepted value valueLen =
     1 ∷ keyLen ∷ mark_byte value ∷ 0 ∷ (to_le 2 valueLen ++ (0 ∷ 0 ∷ (to_le 8 seen.0 ++ to_le 8 accepted.0)))
 

@@ -16,7 +16,7 @@ use Rattle.leaf_sums.specs.Sums.{plain_sum, placed_sum, plain_most, placed_most}
 use Rattle.messages.specs.Message.{Value}
 use Rattle.messages.specs.Limits.{key_most, value_most}
 use Rattle.messages.specs.Answers.{marked, bytes_of}
-use Rattle.messages.specs.declared.OptionValue.{OptionValue}
+use Rattle.messages.specs.declared.Lent.{Lent}
 use Rattle.storage_block.specs.declared.BlockState.{BlockState}
 use Rattle.leaf_fields.specs.Rows.{bytes_front, bytes_append, bytes_zeros, bytes_to_le, part_between}
 use Rattle.storage_block.specs.Block.{Register, Lawful, block_bytes, key_length, value_length, register_of, head_good, rest_zero, sums_good, good, state_of, used, slot_of, mark_byte, front, body, sealed, image}
@@ -60,9 +60,9 @@ bytes_padded n l h = bytes_append l (replicate (n - length l) 0) h (bytes_zeros 
 
 -- ---- the mark and the value
 
-mark_bit : (o : OptionValue) → mark_byte o ≤ 1
-mark_bit OptionValue.None = omega arith
-mark_bit OptionValue.Some = omega arith
+mark_bit : (o : Option Lent) → mark_byte o ≤ 1
+mark_bit None = omega arith
+mark_bit (Some mark) = omega arith
 
 -- no length without a mark
 marked-length : (v : Option Value) → length (bytes_of v) ≤ value_most → length (bytes_of v) ≤ value_most * mark_byte (marked v)

@@ -19,7 +19,7 @@ use Rattle.messages.specs.Limits.{key_most}
 use Rattle.storage_block.specs.Block.{Slot, free, used, bad, Register, block_bytes, key_length, register_of, good, state_of, slot_of}
 use Rattle.storage_block.specs.Read.{Good, good_of}
 use Rattle.storage_search.specs.declared.Found.{Found}
-use Rattle.storage_search.specs.Table.{block_at, with_block, slots_from, slots, is_bad, none_bad, holds, is_free, count, first_from, found_by, where_is, Lent}
+use Rattle.storage_search.specs.Table.{block_at, with_block, blocks_from, blocks_of, slots_from, slots, is_bad, none_bad, holds, is_free, count, first_from, found_by, where_is, Lent}
 use Rattle.storage_search.specs.Blocks.{sized_of, room_for, length_block, byte_block, drop_block, block_same, block_other}
 
 -- ---- each slot is its block's
@@ -50,6 +50,18 @@ unfolding none_bad
 none_bad_at [] j h lt = refl
 none_bad_at (s ∷ l) zero h lt = not-true (is_bad s) (and_true (not (is_bad s)) (none_bad l) h).0
 none_bad_at (s ∷ l) (suc j) h lt = none_bad_at l j (and_true (not (is_bad s)) (none_bad l) h).1 (omega arith)
+
+block_from : (t : List ℕ) (i m j : ℕ) → j < m → get_or (blocks_from t i m) j [] ≡ block_at t (i + j)
+unfolding blocks_from
+block_from t i zero j h = absurd (omega arith)
+block_from t i (suc m) zero h = rw add-zero
+block_from t i (suc m) (suc j) h =
+    let e : suc i + j ≡ i + suc j = omega arith in
+    block_from t (suc i) m j (omega arith) ∙ ap (block_at t) e
+
+pub block_in : (t : List ℕ) (n i : ℕ) → i < n → get_or (blocks_of t n) i [] ≡ block_at t i
+unfolding blocks_of
+block_in t n i h = block_from t 0 n i h ∙ ap (block_at t) (zero-add i)
 
 -- no block of a sound table is bad
 pub sound_at : (t : List ℕ) (n i : ℕ) → none_bad (slots t n) ≡ true → i < n → is_bad (slot_of (block_at t i)) ≡ false

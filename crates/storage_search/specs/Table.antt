@@ -6,9 +6,7 @@ use Rattle.leaf_fields.specs.Fields.{same}
 use Rattle.messages.specs.Message.{Key}
 use Rattle.messages.specs.Limits.{registers_most}
 use Rattle.storage_block.specs.Block.{Slot, free, used, bad, Register, fresh, block_bytes, slot_of}
-use Rattle.storage_block.specs.declared.BlockState.{BlockState}
 use Rattle.storage_search.specs.declared.Found.{Found}
-use Rattle.storage_search.specs.declared.Search.{Search}
 
 -- ---- bytes
 
@@ -24,9 +22,18 @@ block_at t i = take block_bytes (drop (i * block_bytes) t)
 unfoldable pub with_block : List ℕ → ℕ → List ℕ → List ℕ
 with_block t i b = take (i * block_bytes) t ++ (b ++ drop block_bytes (drop (i * block_bytes) t))
 
+-- the m blocks from i on
+unfoldable pub blocks_from : List ℕ → ℕ → ℕ → List (List ℕ)
+blocks_from t i zero = []
+blocks_from t i (suc m) = block_at t i ∷ blocks_from t (suc i) m
+
+-- the table as n blocks
+unfoldable pub blocks_of : List ℕ → ℕ → List (List ℕ)
+blocks_of t n = blocks_from t 0 n
+
 -- ---- values
 
--- the m blocks from i on
+-- the same as values
 unfoldable pub slots_from : List ℕ → ℕ → ℕ → List Slot
 slots_from t i zero = []
 slots_from t i (suc m) = slot_of (block_at t i) ∷ slots_from t (suc i) m
@@ -39,11 +46,6 @@ abbrev pub is_bad : Slot → Bool
 is_bad free = false
 is_bad (used r) = false
 is_bad bad = true
-
-abbrev pub bad_state : BlockState → Bool
-bad_state BlockState.Free = false
-bad_state BlockState.Good = false
-bad_state BlockState.Bad = true
 
 -- every block is free or good
 unfoldable pub none_bad : List Slot → Bool
@@ -70,10 +72,6 @@ count p (s ∷ l) = cond (p s) (suc (count p l)) (count p l)
 unfoldable pub first_from : (Slot → Bool) → ℕ → List Slot → Option ℕ
 first_from p i [] = None
 first_from p i (s ∷ l) = cond (p s) (Some i) (first_from p (suc i) l)
-
-abbrev pub searched : Option ℕ → Search
-searched None = Search.Nothing
-searched (Some i) = Search.At i
 
 abbrev pub found_by : Option ℕ → Option ℕ → Found
 found_by (Some i) f = Found.At i

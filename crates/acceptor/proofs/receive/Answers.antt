@@ -1,88 +1,177 @@
 -- `acceptor::receive` meets its contract: each return is a case of the outcome, in rank order.
 -- Assumes nothing.
-use mathlib.Core.Path.{◌≡◌, refl, sym, ◌∙◌}
-use mathlib.Core.Bool.{Bool, true, false}
-use mathlib.Core.List.{List}
-use Rattle.std.specs.Prelude.{None}
-use Prim.Native.Nat.{ℕ}
-use lib.ListN.{length}
+use Rattle.std.proofs.Common.{◌≡◌, refl, sym, ◌∙◌, true, false, List, [], ℕ, ◌+◌, ◌*◌, ◌≤◌, Option, Some, None, ◌⊎◌, inl, inr, length}
+use Rattle.std.specs.Array.{IsWholeChunk}
+use Rattle.std.proofs.lemmas.List.Edits.{sets}
+use Rattle.messages.specs.Answers.{bytes_of}
+use Rattle.storage_block.specs.Block.{readable, register_of, register_with, fresh}
+use Rattle.acceptor_work.specs.Contract.{full_answer}
 use Rattle.messages.specs.declared.Address.{Address}
+use Rattle.messages.specs.declared.Ballot.{Ballot}
+use Rattle.messages.specs.declared.Lent as Marks
 use Rattle.messages.specs.declared.Rpc.{Rpc}
 use Rattle.messages.specs.declared.answer.Answer.{Answer}
 use Rattle.messages.specs.declared.answer.Refusal.{Refusal}
-use Rattle.messages.specs.Message.{Message, message_of}
+use Rattle.messages.specs.Message.{Key, given, message_of}
 use Rattle.messages.specs.Limits.{within_limits}
-use Rattle.storage_search.specs.Table.{is_sized, none_bad, slots}
-use Rattle.acceptor_rules.specs.Rules.{job_of}
-use Rattle.acceptor.specs.Contract.{Received, Ready}
-use Rattle.acceptor.specs.Outcomes.{size_refused, area_refused, damage_refused, kind_refused}
-use borrow.Author.Rules.{rules}
+use Rattle.storage_search.specs.declared.Found.{Found}
+use Rattle.storage_search.specs.Table.{is_sized, none_bad, block_at, slots, where_is, is_twice, Lent}
+use Rattle.acceptor_rules.specs.Rules.{proposed, accepted, proposal, acceptance, job_of}
+use Rattle.acceptor.specs.Contract.{Placed, Received}
+use Rattle.acceptor.specs.Outcomes.{Takes, takes_room, takes_readable, twice_received, over_received, propose_block, propose_full, propose_key, accept_block, accept_full, accept_key, accept_value, size_refused, area_refused, damage_refused, kind_refused}
 use Rattle.acceptor.proofs.receive.Goals as goal
+use Rattle.acceptor.proofs.receive.Goals.{in-ProposeReq, in_default-matches, in-Full, in-At, in-At-2, Else-not-matches, After-fits}
 
--- what each test has shown
-sized : (t : List ℕ) (n : ℕ) (s : Bool) → s ≡ is_sized t n → s ≡ true → is_sized t n ≡ true
-sized t n s es h = sym es ∙ h
+-- ---- the kinds that are for the acceptor
 
-ready : (t : List ℕ) (n : ℕ) (from : Address) (s d fits : Bool) (rpc kind : Rpc) (k v w l : List ℕ) (m : Message) → s ≡ is_sized t n → s ≡ true → d ≡ none_bad (slots t n) → d ≡ true → fits ≡ within_limits from (message_of rpc k v w l) → rpc ≡ kind → message_of kind k v w l ≡ m → Ready t n from m fits
-ready t n from s d fits rpc kind k v w l m es h ed g ef e em = record { lent = record { sized = sym es ∙ h; sound = sym ed ∙ g }; limits = ef ∙ rw (e, em) }
+abbrev IsJob : Rpc → Type 0
+IsJob rpc = ((b : Ballot) × (rpc ≡ Rpc.ProposeReq b)) ⊎ ((b : Ballot) × (o : Option Marks.Lent) × (rpc ≡ Rpc.AcceptReq b o))
 
-module _ (t : List ℕ) (n : ℕ) (a : List ℕ) (from : Address) (s : Bool) (es : s ≡ is_sized t n) where
-  wrong_size : (m : Message) → s ≡ false → Received t n a from m (Answer.Refused Refusal.AreaSize) t a
-  wrong_size m h = size_refused t n a from m (sym es ∙ h)
+foreign_of : (rpc : Rpc) (k v w l : List ℕ) → ((b : Ballot) → rpc ≡ Rpc.ProposeReq b → ⊥) → ((b : Ballot) (o : Option Marks.Lent) → rpc ≡ Rpc.AcceptReq b o → ⊥) → job_of (message_of rpc k v w l) ≡ None
+foreign_of (Rpc.ProposeReq b) k v w l p q = absurd (p b refl)
+foreign_of (Rpc.AcceptReq b o) k v w l p q = absurd (q b o refl)
+foreign_of (Rpc.ClientRequest i r) k v w l p q = refl
+foreign_of (Rpc.ClientResponse i r) k v w l p q = refl
+foreign_of Rpc.SetAcceptAcceptors k v w l p q = refl
+foreign_of Rpc.SetProposeAcceptors k v w l p q = refl
+foreign_of (Rpc.ProposeRes b a o r) k v w l p q = refl
+foreign_of (Rpc.AcceptRes b r) k v w l p q = refl
 
-  wrong_area : (m : Message) → s ≡ true → (length a ≡ 256 → ⊥) → Received t n a from m (Answer.Refused Refusal.AreaSize) t a
-  wrong_area m h ne = area_refused t n a from m (sym es ∙ h) ne
+job_at : (c : goal.Else-not-matches) → IsJob c.args.message.rpc
+job_at c =
+    elim c.match-matches.branch [
+      | in-ProposeReq w ↦ w.in-ProposeReq.is
+      | in_default-matches w ↦ cc (w.matches-is, c.if-not-matches.false)
+    ]
 
-  module _ (d : Bool) (ed : d ≡ none_bad (slots t n)) where
-    damaged : (m : Message) → s ≡ true → length a ≡ 256 → d ≡ false → Received t n a from m (Answer.Refused Refusal.Damaged) t a
-    damaged m h la f = damage_refused t n a from m (sym es ∙ h) la (sym ed ∙ f)
+-- ---- the block that has the key or takes it
 
-    foreign : (rpc kind : Rpc) (k v w l : List ℕ) → s ≡ true → length a ≡ 256 → d ≡ true → rpc ≡ kind → job_of (message_of kind k v w l) ≡ None → Received t n a from (message_of rpc k v w l) (Answer.Refused Refusal.WrongKind) t a
-    foreign rpc kind k v w l h la g e f = kind_refused t n a from (message_of rpc k v w l) (sym es ∙ h) la (sym ed ∙ g) (rw e f)
+abbrev Placing : List ℕ → ℕ → Key → Option ℕ → Type 0
+Placing t n k o = ((o ≡ None) × (where_is k (slots t n) ≡ Found.Full)) ⊎ ((i : ℕ) × (o ≡ Some i) × Takes t n k i)
 
-as_message : (t : List ℕ) (n : ℕ) (a : List ℕ) (from : Address) (rpc kind : Rpc) (k v w l : List ℕ) (m : Message) (r : Answer) (t' a' : List ℕ) → rpc ≡ kind → Received t n a from m r t' a' → m ≡ message_of kind k v w l → Received t n a from (message_of rpc k v w l) r t' a'
-as_message t n a from rpc kind k v w l m r t' a' e h em = rw (e, ← em) h
+takes_of : (t : List ℕ) (n : ℕ) (k : Key) (i : ℕ) (f : Found) → f ≡ where_is k (slots t n) → (f ≡ Found.At i) ⊎ (f ≡ Found.Free i) → Takes t n k i
+takes_of t n k i f ef (inl e) = inl (sym ef ∙ e)
+takes_of t n k i f ef (inr e) = inr (sym ef ∙ e)
+
+placing : (c : goal.After-fits) → Placing c.args.table.now c.args.registers c.args.message.key.now c.match-locate.block
+placing c =
+    elim c.match-locate.branch [
+      | in-Full w ↦ inl (w.block-is, sym c.locate.ensures ∙ w.in-Full.is)
+      | in-At w ↦ inr (w.in-At.i, w.block-is, takes_of _ _ _ _ _ c.locate.ensures w.in-At.is)
+      | in-At-2 w ↦ inr (w.in-At.i, w.block-is, takes_of _ _ _ _ _ c.locate.ensures w.in-At.is)
+    ]
+
+-- ---- what the tests have shown
+
+lent_by : (t : List ℕ) (n : ℕ) → true ≡ is_sized t n → true ≡ none_bad (slots t n) → Lent t n
+lent_by t n s d = record { sized = sym s; sound = sym d }
+
+-- the area as an array is the area
+module _ (t : List ℕ) (n : ℕ) (a₀ a : List ℕ) (area : IsWholeChunk a₀ a 256) (from : Address) (rpc : Rpc) (k v w l : List ℕ) where
+  damaged : true ≡ is_sized t n → false ≡ none_bad (slots t n) → Received t n a₀ from (message_of rpc k v w l) (Answer.Refused Refusal.Damaged) t a
+  damaged s d = rw area.same (damage_refused t n a₀ from (message_of rpc k v w l) (sym s) area.long (sym d))
+
+  foreign : true ≡ is_sized t n → true ≡ none_bad (slots t n) → job_of (message_of rpc k v w l) ≡ None → Received t n a₀ from (message_of rpc k v w l) (Answer.Refused Refusal.WrongKind) t a
+  foreign s d f = rw area.same (kind_refused t n a₀ from (message_of rpc k v w l) (sym s) area.long (sym d) f)
+
+  module _ (lent : Lent t n) where
+    twice : IsJob rpc → where_is k (slots t n) ≡ Found.Twice → Received t n a₀ from (message_of rpc k v w l) (Answer.Refused Refusal.Damaged) t a
+    twice (inl (b, e)) h = rw (area.same, e) (twice_received t n a₀ from (message_of (Rpc.ProposeReq b) k v w l) (proposal b k) refl lent area.long h)
+    twice (inr (b, o, e)) h = rw (area.same, e) (twice_received t n a₀ from (message_of (Rpc.AcceptReq b o) k v w l) (acceptance b k (given o v)) refl lent area.long h)
+
+    over : IsJob rpc → (o : Option ℕ) → Placing t n k o → false ≡ within_limits from (message_of rpc k v w l) → Received t n a₀ from (message_of rpc k v w l) (Answer.Refused Refusal.OverLimit) t a
+    over j o p lim = rw area.same (by j p)
+      where
+        at_found : IsJob rpc → (f : Found) → where_is k (slots t n) ≡ f → is_twice f ≡ false → Received t n a₀ from (message_of rpc k v w l) (Answer.Refused Refusal.OverLimit) t a₀
+        at_found (inl (b, e)) f h g = rw e (over_received t n a₀ from (message_of (Rpc.ProposeReq b) k v w l) (proposal b k) refl lent area.long f h g (rw e at (sym lim)))
+        at_found (inr (b, x, e)) f h g = rw e (over_received t n a₀ from (message_of (Rpc.AcceptReq b x) k v w l) (acceptance b k (given x v)) refl lent area.long f h g (rw e at (sym lim)))
+
+        by : IsJob rpc → Placing t n k o → Received t n a₀ from (message_of rpc k v w l) (Answer.Refused Refusal.OverLimit) t a₀
+        by j' (inl (e, h)) = at_found j' Found.Full h refl
+        by j' (inr (i, e, inl h)) = at_found j' (Found.At i) h refl
+        by j' (inr (i, e, inr h)) = at_found j' (Found.Free i) h refl
+
+taken : (t : List ℕ) (n : ℕ) (k : Key) (o : Option ℕ) (i : ℕ) → Placing t n k o → o ≡ Some i → Takes t n k i
+taken t n k o i (inl p) e = cc
+taken t n k o i (inr (j, ej, h)) e =
+    let same : j ≡ i = cc in
+    rw same at h
+
+none_free : (t : List ℕ) (n : ℕ) (k : Key) (o : Option ℕ) → Placing t n k o → o ≡ None → where_is k (slots t n) ≡ Found.Full
+none_free t n k o (inl p) e = p.1
+none_free t n k o (inr p) e = cc
+
+-- a message that no test refuses
+module _ (t : List ℕ) (n : ℕ) (a₀ a : List ℕ) (area : IsWholeChunk a₀ a 256) (from : Address) (rpc : Rpc) (k v w l : List ℕ) (lent : Lent t n) (o : Option ℕ) (p : Placing t n k o) (lim : true ≡ within_limits from (message_of rpc k v w l)) where
+  module _ (b : Ballot) (e : rpc ≡ Rpc.ProposeReq b) where
+    proposal_asks : (i : ℕ) → o ≡ Some i → (i * 512 + 512 ≤ length t) × (readable (block_at t i) ≡ true) × (length k ≤ 64)
+    proposal_asks i ei =
+        let at_i = taken t n k o i p ei in
+        (takes_room t n k i lent at_i, takes_readable t n k i lent at_i, propose_key t n a₀ k from lent area.long b (rw e at (sym lim)))
+
+    proposal_placed : (i : ℕ) (r : Answer) (t' a' : List ℕ) → o ≡ Some i → Placed (proposed b (register_with k (block_at t i))) from t i r t' → a' ≡ sets a 0 (bytes_of (register_of (block_at t i)).value) → Received t n a₀ from (message_of rpc k v w l) r t' a'
+    proposal_placed i r t' a' ei h ea = rw e (propose_block t n a₀ k from lent area.long b (rw e at (sym lim)) i r t' a' (taken t n k o i p ei) h (rw area.same at ea))
+
+    proposal_full : (r : Answer) → o ≡ None → r ≡ full_answer (proposed b (fresh [])) from → Received t n a₀ from (message_of rpc k v w l) r t a
+    proposal_full r eo er = rw (area.same, e) (propose_full t n a₀ k from lent area.long b (rw e at (sym lim)) r (none_free t n k o p eo) er)
+
+  module _ (b : Ballot) (x : Option Marks.Lent) (e : rpc ≡ Rpc.AcceptReq b x) where
+    acceptance_asks : (i : ℕ) → o ≡ Some i → (i * 512 + 512 ≤ length t) × (length k ≤ 64) × (length (bytes_of (given x v)) ≤ 256)
+    acceptance_asks i ei =
+        (takes_room t n k i lent (taken t n k o i p ei), accept_key t n a₀ k from lent area.long b (given x v) (rw e at (sym lim)), accept_value t n a₀ k from lent area.long b (given x v) (rw e at (sym lim)))
+
+    acceptance_placed : (i : ℕ) (r : Answer) (t' : List ℕ) → o ≡ Some i → Placed (accepted b (given x v) (register_with k (block_at t i))) from t i r t' → Received t n a₀ from (message_of rpc k v w l) r t' a
+    acceptance_placed i r t' ei h = rw (area.same, e) (accept_block t n a₀ k from lent area.long b (given x v) (rw e at (sym lim)) i r t' (taken t n k o i p ei) h)
+
+    acceptance_full : o ≡ None → Received t n a₀ from (message_of rpc k v w l) (Answer.Refused Refusal.NoRoom) t a
+    acceptance_full eo = rw (area.same, e) (accept_full t n a₀ k from lent area.long b (given x v) (rw e at (sym lim)) (none_free t n k o p eo))
 
 pub returns-then-not-is_sized : goal.returns-then-not-is_sized
-returns-then-not-is_sized c = search wrong_size depth 8
+returns-then-not-is_sized c = size_refused _ _ _ _ _ (sym c.if-not-is_sized.ensures)
 
-pub returns-then-area-ne-ANSWER : goal.returns-then-area-ne-ANSWER
-returns-then-area-ne-ANSWER c = search wrong_area depth 8
-
-pub is_sound-requires : goal.is_sound-requires
-is_sound-requires c = sized _ _ _ c.is_sized.ensures c.if-not-is_sized.false
+pub returns-in_default : goal.returns-in_default
+returns-in_default c = area_refused _ _ _ _ _ (sym c.if-not-is_sized.ensures) c.in_default.ensures.cases
 
 pub returns-then-not-is_sound : goal.returns-then-not-is_sound
-returns-then-not-is_sound c = search damaged depth 9
+returns-then-not-is_sound c = damaged _ _ _ _ c.in-Some.ensures.cases _ _ _ _ _ _ c.if-not-is_sized.ensures c.if-not-is_sound.ensures
 
-pub propose-requires : goal.propose-requires
-propose-requires c = (ready _ _ _ _ _ _ _ _ _ _ _ _ _ c.is_sized.ensures c.if-not-is_sized.false c.is_sound.ensures c.if-not-is_sound.false c.fits-fits.ensures c.in-ProposeReq.is refl, search rules)
+pub returns-then-not-matches : goal.returns-then-not-matches
+returns-then-not-matches c =
+    elim c.match-matches.branch [
+      | in-ProposeReq w ↦ cc (w.matches-is, c.if-not-matches.true)
+      | in_default-matches w ↦
+          foreign _ _ _ _ c.in-Some.ensures.cases _ _ _ _ _ _ c.if-not-is_sized.ensures c.if-not-is_sound.ensures
+          (foreign_of _ _ _ _ _ (λ b e. w.in_default-matches.not-ProposeReq b e) (λ b o e. w.in_default-matches.not-AcceptReq b o e))
+    ]
 
-pub accept-requires : goal.accept-requires
-accept-requires c = ready _ _ _ _ _ _ _ _ _ _ _ _ _ c.is_sized.ensures c.if-not-is_sized.false c.is_sound.ensures c.if-not-is_sound.false c.fits-fits.ensures c.in-AcceptReq.is refl
+pub returns-in-Twice : goal.returns-in-Twice
+returns-in-Twice c =
+    twice _ _ _ _ c.in-Some.ensures.cases _ _ _ _ _ _ (lent_by _ _ c.if-not-is_sized.ensures c.if-not-is_sound.ensures) (job_at (goal.at.returns-in-Twice c).Else-not-matches) (sym c.in-Twice.ensures)
 
-pub returns-in-ProposeReq : goal.returns-in-ProposeReq
-returns-in-ProposeReq c = search as_message depth 9
+pub returns-then-not-fits : goal.returns-then-not-fits
+returns-then-not-fits c =
+    over _ _ _ _ c.in-Some.ensures.cases _ _ _ _ _ _ (lent_by _ _ c.if-not-is_sized.ensures c.if-not-is_sound.ensures) (job_at (goal.at.returns-then-not-fits c).Else-not-matches) _ (placing (goal.at.returns-then-not-fits c).After-fits) c.if-not-fits.ensures
 
-pub returns-in-AcceptReq : goal.returns-in-AcceptReq
-returns-in-AcceptReq c =
-    let h = c.accept.ensures c.args.area.now (search rules) in
-    search as_message depth 9
+pub returns-in-ProposeReq-Some : goal.returns-in-ProposeReq-Some
+returns-in-ProposeReq-Some c =
+    proposal_placed _ _ _ _ c.in-Some.ensures.cases _ c.args.message.rpc c.args.message.key.now c.args.message.value.now c.args.message.other.now c.args.message.list.now (lent_by _ _ c.if-not-is_sized.ensures c.if-not-is_sound.ensures) _ (placing (goal.at.returns-in-ProposeReq-Some c).After-fits) c.if-not-fits.ensures _ c.in-ProposeReq-Some.is-0 _ _ _ _ c.in-ProposeReq-Some.is-1 c.propose_at.ensures.0 c.propose_at.ensures.1
 
-pub returns-in-ClientRequest : goal.returns-in-ClientRequest
-returns-in-ClientRequest c = search foreign depth 12
+pub returns-in-ProposeReq-None : goal.returns-in-ProposeReq-None
+returns-in-ProposeReq-None c =
+    proposal_full _ _ _ _ c.in-Some.ensures.cases _ c.args.message.rpc c.args.message.key.now c.args.message.value.now c.args.message.other.now c.args.message.list.now (lent_by _ _ c.if-not-is_sized.ensures c.if-not-is_sound.ensures) _ (placing (goal.at.returns-in-ProposeReq-None c).After-fits) c.if-not-fits.ensures _ c.in-ProposeReq-None.is-0 _ c.in-ProposeReq-None.is-1 c.propose_full.ensures
 
-pub returns-in-ClientResponse : goal.returns-in-ClientResponse
-returns-in-ClientResponse c = search foreign depth 12
+pub returns-in-AcceptReq-Some : goal.returns-in-AcceptReq-Some
+returns-in-AcceptReq-Some c =
+    acceptance_placed _ _ _ _ c.in-Some.ensures.cases _ c.args.message.rpc c.args.message.key.now c.args.message.value.now c.args.message.other.now c.args.message.list.now (lent_by _ _ c.if-not-is_sized.ensures c.if-not-is_sound.ensures) _ (placing (goal.at.returns-in-AcceptReq-Some c).After-fits) c.if-not-fits.ensures _ _ c.in-AcceptReq-Some.is-0 _ _ _ c.in-AcceptReq-Some.is-1 c.accept_at.ensures
 
-pub returns-in-SetAcceptAcceptors : goal.returns-in-SetAcceptAcceptors
-returns-in-SetAcceptAcceptors c = search foreign depth 12
+pub returns-in-AcceptReq-None : goal.returns-in-AcceptReq-None
+returns-in-AcceptReq-None c =
+    acceptance_full _ _ _ _ c.in-Some.ensures.cases _ c.args.message.rpc c.args.message.key.now c.args.message.value.now c.args.message.other.now c.args.message.list.now (lent_by _ _ c.if-not-is_sized.ensures c.if-not-is_sound.ensures) _ (placing (goal.at.returns-in-AcceptReq-None c).After-fits) c.if-not-fits.ensures _ _ c.in-AcceptReq-None.is-0 c.in-AcceptReq-None.is-1
 
-pub returns-in-SetProposeAcceptors : goal.returns-in-SetProposeAcceptors
-returns-in-SetProposeAcceptors c = search foreign depth 12
+pub propose_at-requires : goal.propose_at-requires
+propose_at-requires c =
+    proposal_asks _ _ _ _ c.in-Some.ensures.cases _ c.args.message.rpc c.args.message.key.now c.args.message.value.now c.args.message.other.now c.args.message.list.now (lent_by _ _ c.if-not-is_sized.ensures c.if-not-is_sound.ensures) _ (placing (goal.at.propose_at-requires c).After-fits) c.if-not-fits.ensures _ c.in-ProposeReq-Some.is-0 _ c.in-ProposeReq-Some.is-1
 
-pub returns-in-ProposeRes : goal.returns-in-ProposeRes
-returns-in-ProposeRes c = search foreign depth 12
-
-pub returns-in-AcceptRes : goal.returns-in-AcceptRes
-returns-in-AcceptRes c = search foreign depth 12
+pub accept_at-requires : goal.accept_at-requires
+accept_at-requires c =
+    acceptance_asks _ _ _ _ c.in-Some.ensures.cases _ c.args.message.rpc c.args.message.key.now c.args.message.value.now c.args.message.other.now c.args.message.list.now (lent_by _ _ c.if-not-is_sized.ensures c.if-not-is_sound.ensures) _ (placing (goal.at.accept_at-requires c).After-fits) c.if-not-fits.ensures _ _ c.in-AcceptReq-Some.is-0 _ c.in-AcceptReq-Some.is-1

@@ -1,17 +1,12 @@
 -- `acceptor_work::propose_in` meets its contract: the comparison decides between a rejection that stores nothing and a promise whose block is written anew.
 -- Assumes nothing.
-use mathlib.Core.Path.{◌≡◌, sym, ap, ◌∙◌}
-use mathlib.Core.Bool.{Bool, true, false}
-use mathlib.Core.List.{List}
-use Prim.Native.Nat.{ℕ, ◌-◌, ◌≤◌}
-use native.Mathlib.Nat.{sub-zero}
-use lib.ListN.{length, take, drop, length-take}
-use lib.Seq.{sets, length-sets}
+use Rattle.std.specs.Prelude.{Option, Ok}
+use Rattle.std.proofs.Common.{◌≡◌, sym, ap, ◌∙◌, true, List, ℕ, ◌≤◌, length, take, rules}
+use Rattle.std.specs.Array.{IsWholeChunk}
+use Rattle.std.proofs.lemmas.List.Edits.{sets}
 use Rattle.messages.specs.declared.Address.{Address}
 use Rattle.messages.specs.declared.Ballot.{Ballot}
-use Rattle.messages.specs.declared.OptionValue.{OptionValue}
-use Rattle.messages.specs.declared.Error.{Error}
-use Rattle.messages.specs.declared.Res.{Res}
+use Rattle.messages.specs.declared.Lent.{Lent}
 use Rattle.messages.specs.declared.Rpc.{Rpc}
 use Rattle.messages.specs.declared.answer.Answer.{Answer}
 use Rattle.messages.specs.Ballots.{above}
@@ -19,41 +14,38 @@ use Rattle.messages.specs.Message.{given}
 use Rattle.messages.specs.Answers.{marked, bytes_of}
 use Rattle.storage_block.specs.Block.{readable, register_of, register_with, register, image}
 use Rattle.storage_block.specs.Read.{value_fits_lem}
+use Rattle.storage_block.specs.Stores.{value_back}
 use Rattle.acceptor_rules.specs.Rules.{proposed}
 use Rattle.acceptor_work.specs.Contract.{Worked}
-use Rattle.storage_block.specs.Stores.{value_back}
-use borrow.Author.Rules.{rules}
-use native.Mathlib.Omega.{arith}
 use Rattle.acceptor_work.proofs.propose_in.Goals as goal
 
-module _ (b key : List ℕ) (from : Address) (ballot seen last : Ballot) (mark : OptionValue) (len : ℕ) (ab : Bool) where
-  rejected : seen ≡ (register_of b).seen → last ≡ (register_of b).accepted → mark ≡ marked (register_of b).value → len ≡ length (bytes_of (register_of b).value) → ab ≡ above ballot seen → ab ≡ false → Worked (proposed ballot (register_with key b)) from b (Answer.Message from (Rpc.ProposeRes ballot last mark (Res.Err (Error.ProposalRejected seen))) len) b
-  rejected es el em en ea f =
-      let no-promise : above ballot (register_of b).seen ≡ false = ap (above ballot) (sym es) ∙ sym ea ∙ f in
-      record { answer = rw (no-promise, es, el, em, en); block = rw no-promise }
+module _ (b₀ b : List ℕ) (w : IsWholeChunk b₀ b 512) (h : readable b₀ ≡ true) where
+  fits : length (bytes_of (register_of b).value) ≤ 256
+  fits = rw w.same (value_fits_lem b₀ w.long h)
 
-  promised : (a a' n : List ℕ) → length b ≡ 512 → readable b ≡ true → length a ≡ 256 → a' ≡ sets a 0 (bytes_of (register_of b).value) → seen ≡ (register_of b).seen → last ≡ (register_of b).accepted → mark ≡ marked (register_of b).value → len ≡ length (bytes_of (register_of b).value) → ab ≡ above ballot seen → ab ≡ true → n ≡ image (register key ballot last (given mark (take (len - 0) (drop 0 a')))) → Worked (proposed ballot (register_with key b)) from b (Answer.Message from (Rpc.ProposeRes ballot last mark Res.Ok) len) n
-  promised a a' n lb h la ea' es el em en ea f e =
-      let promise : above ballot (register_of b).seen ≡ true = ap (above ballot) (sym es) ∙ sym ea ∙ f in
-      let v = (register_of b).value in
-      let back : given mark (take (len - 0) (drop 0 a')) ≡ v = rw (em, en, ea', sub-zero) (value_back v a (omega (arith, value_fits_lem b lb h))) in
-      record { answer = rw (promise, el, em, en); block = rw promise (e ∙ rw (el, back)) }
+  room : (len : ℕ) → len ≡ length (bytes_of (register_of b).value) → len ≤ 256
+  room len e = rw e fits
 
-room : (b a a' : List ℕ) (len : ℕ) → length b ≡ 512 → readable b ≡ true → len ≡ length (bytes_of (register_of b).value) → length a ≡ 256 → a' ≡ sets a 0 (bytes_of (register_of b).value) → len ≤ length a'
-room b a a' len l h e la ea = omega (arith, value_fits_lem b l h, ap length ea, length-sets a 0 (bytes_of (register_of b).value))
+  -- the value, read back out of the area that it was copied to
+  module _ (a a' : List ℕ) (mark : Option Lent) (len : ℕ) (la : length a ≡ 256) (ea : a' ≡ sets a 0 (bytes_of (register_of b).value)) (em : mark ≡ marked (register_of b).value) (en : len ≡ length (bytes_of (register_of b).value)) where
+    back : given mark (take len a') ≡ (register_of b).value
+    back = rw (em, en, ea) (value_back (register_of b).value a (rw la fits))
 
-short : (mark : OptionValue) (a a' v : List ℕ) (n : ℕ) → length a ≡ 256 → a' ≡ sets a 0 v → length (bytes_of (given mark (take n (drop 0 a')))) ≤ 256
-short OptionValue.None a a' v n l e = omega arith
-short OptionValue.Some a a' v n l e = omega (arith, length-take n a', ap length e, length-sets a 0 v)
+    short : length (bytes_of (given mark (take len a'))) ≤ 256
+    short = rw back fits
 
-pub returns-then-not-above : goal.returns-then-not-above
-returns-then-not-above c = (search rejected depth 9, search rules)
+    promised : (n key : List ℕ) (from : Address) (ballot seen last : Ballot) → seen ≡ (register_of b).seen → last ≡ (register_of b).accepted → true ≡ above ballot seen → n ≡ image (register key ballot last (given mark (take len a'))) → Worked (proposed ballot (register_with key b₀)) from b₀ (Answer.Message from (Rpc.ProposeRes ballot last mark (Ok tt)) len) n
+    promised n key from ballot seen last es el above_seen e =
+        let promise : above ballot (register_of b).seen ≡ true = sym (above_seen ∙ ap (above ballot) es) in
+        rw (← w.same) (record { answer = rw (promise, el, em, en); block = rw promise (e ∙ rw (el, back)) })
 
-pub slice_bounds-write-end : goal.slice_bounds-write-end
-slice_bounds-write-end c = search room
+pub shared_ref_as_front-promised : goal.shared_ref_as_front-promised
+shared_ref_as_front-promised c = room _ _ c.in-Some.ensures.cases c.requires.1 _ c.copy_value-len.ensures.0
 
 pub write-requires : goal.write-requires
-write-requires c = (search rules, search rules, search short)
+write-requires c =
+    (search rules, short _ _ c.in-Some.ensures.cases c.requires.1 _ _ _ _ c.told-area c.copy_value-len.ensures.1 c.value_mark-mark.ensures c.copy_value-len.ensures.0)
 
-pub returns : goal.returns
-returns c = (search promised depth 14, search rules)
+pub returns-then-above : goal.returns-then-above
+returns-then-above c =
+    (promised _ _ c.in-Some.ensures.cases c.requires.1 _ _ _ _ c.told-area c.copy_value-len.ensures.1 c.value_mark-mark.ensures c.copy_value-len.ensures.0 _ _ _ _ _ _ c.highest_seen-seen.ensures c.accepted_ballot-last.ensures c.if-above.ensures c.write.ensures, rw c.in-Some.ensures.cases.same at c.copy_value-len.ensures.1)

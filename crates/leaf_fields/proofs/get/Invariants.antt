@@ -7,6 +7,3 @@ use Rattle.leaf_fields.proofs.get.Given as goal
 
 abbrev pub invariant-loop-i : goal.invariant-loop-i
 invariant-loop-i l = (l.i ≤ l.n) × (l.x ≡ from_le (part l.s (l.at + l.i) (l.n - l.i))) × (l.x < 256 ^ (l.n - l.i))
-
-abbrev pub decreases-loop-i : goal.decreases-loop-i
-decreases-loop-i l = l.i

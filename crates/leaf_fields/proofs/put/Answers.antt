@@ -1,9 +1,8 @@
 -- `leaf_fields::put` meets its contract. The loop's invariant: what is left to store gives the final row.
 -- Assumes nothing.
-use mathlib.Core.Path.{◌≡◌, refl}
+use mathlib.Core.Path.{◌≡◌}
 use mathlib.Core.List.{List}
 use Prim.Native.Nat.{ℕ, suc, ◌+◌, ◌-◌, ◌/◌, ◌%◌, ◌≤◌, ◌<◌}
-use native.Mathlib.Nat.{add-zero, sub-zero}
 use lib.ListN.{set}
 use lib.Seq.{sets}
 use Rattle.leaf_fields.specs.Fields.{to_le}
@@ -23,9 +22,6 @@ unfolding to_le
 done d r at n i v past e =
     let e1 : n - i ≡ 0 = omega arith in
     rw e1 at e
-
-pub loop-i-init : goal.loop-i-init
-loop-i-init c = (search rules, refl, simp (add-zero, sub-zero))
 
 pub loop-i-preserved : goal.loop-i-preserved
 loop-i-preserved c = (search rules, search rules, search turn)

@@ -9,6 +9,3 @@ use Rattle.leaf_fields.proofs.put.Given as goal
 
 abbrev pub invariant-loop-i : goal.invariant-loop-i
 invariant-loop-i l = (l.i ≤ l.n) × (length l.d ≡ length l.initial.d) × (sets l.d (l.at + l.i) (to_le (l.n - l.i) l.rest) ≡ sets l.initial.d l.at (to_le l.n l.x))
-
-abbrev pub decreases-loop-i : goal.decreases-loop-i
-decreases-loop-i l = l.n - l.i

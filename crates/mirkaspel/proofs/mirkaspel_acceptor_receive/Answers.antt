@@ -22,4 +22,4 @@ handed t n a from u k v o l h m x t' a' w w' r e f p g s = record { answer = x; 
 
 pub returns : goal.returns
 returns c =
-    handed _ _ _ _ c.args.message.now _ _ _ _ _ _ _ _ _ _ _ _ c.take_head.ensures c.message_in-rpc.ensures c.receive-a.ensures c.hand_back.ensures.0 c.hand_back.ensures.1
+    handed _ _ _ _ c.args.message.now _ _ _ _ _ _ _ _ _ _ _ _ c.from-head.ensures c.from.ensures c.receive-a.ensures c.hand_back.ensures.0 c.hand_back.ensures.1

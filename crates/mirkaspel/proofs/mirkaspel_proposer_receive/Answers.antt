@@ -22,4 +22,4 @@ handed a n s from at u k v o l h m x a' s' w w' r e f p g q = record { answer = 
 
 pub returns : goal.returns
 returns c =
-    handed _ _ _ _ _ c.args.message.now _ _ _ _ _ _ _ _ _ _ _ _ c.take_head.ensures c.message_in-rpc.ensures c.receive-a.ensures c.hand_back.ensures.0 c.hand_back.ensures.1
+    handed _ _ _ _ _ c.args.message.now _ _ _ _ _ _ _ _ _ _ _ _ c.from-head.ensures c.from.ensures c.receive-a.ensures c.hand_back.ensures.0 c.hand_back.ensures.1

@@ -3,9 +3,9 @@
 use mathlib.Core.Path.{◌≡◌, refl, sym, ap, subst, ◌∙◌}
 use mathlib.Core.Bool.{Bool, true, false, not, ◌&&◌}
 use mathlib.Core.List.{List}
+use mathlib.Core.Logic.{inl, inr}
 use Rattle.std.specs.Prelude.{Option}
 use Prim.Native.Nat.{ℕ}
-use borrow.Author.Tests.{not-true, not-false}
 use lib.Dec.{eqb}
 use Rattle.leaf_fields.specs.Laws.{and_true}
 use Rattle.messages.specs.declared.Address.{Address}
@@ -13,7 +13,7 @@ use Rattle.messages.specs.declared.Ballot.{Ballot}
 use Rattle.messages.specs.declared.Rpc.{Rpc}
 use Rattle.messages.specs.declared.answer.Answer.{Answer}
 use Rattle.messages.specs.declared.answer.Refusal.{Refusal}
-use Rattle.messages.specs.Message.{Value, Result, Message, message_of}
+use Rattle.messages.specs.Message.{Value, Verdict, Message, message_of}
 use Rattle.messages.specs.Limits.{option_fits, result_fits, list_fits, within_limits}
 use Rattle.messages.specs.Answers.{nothing}
 use Rattle.proposer_rules.specs.State.{Proposer}
@@ -36,7 +36,7 @@ propose_fits : (from : Address) (l : List ℕ) → within_limits from (Message.S
 unfolding within_limits
 propose_fits from l h = (and_true (not (eqb from.0 0)) (list_fits l) h).1
 
-value_fits : (from : Address) (b accepted : Ballot) (o : Option Value) (res : Result) → within_limits from (Message.ProposeRes b accepted o res) ≡ true → option_fits o ≡ true
+value_fits : (from : Address) (b accepted : Ballot) (o : Option Value) (res : Verdict) → within_limits from (Message.ProposeRes b accepted o res) ≡ true → option_fits o ≡ true
 unfolding within_limits
 value_fits from b accepted o res h = (and_true (option_fits o) (result_fits res) (and_true (not (eqb from.0 0)) (option_fits o && result_fits res) h).1).0
 
@@ -52,43 +52,39 @@ module _ (a w : List ℕ) (n : ℕ) (from : Address) (at : ℕ) (rpc kind : Rpc)
   as_kind : (r : Answer) (a' w' : List ℕ) → Worked w (Rules.receive (read_area a n) from at (message_of kind k v u l)) r a' w' → Worked w (Rules.receive (read_area a n) from at (message_of rpc k v u l)) r a' w'
   as_kind r a' w' h = subst (λ (x : Rpc). Worked w (Rules.receive (read_area a n) from at (message_of x k v u l)) r a' w') (sym e) h
 
-  within : not fits ≡ false → within_limits from (message_of kind k v u l) ≡ true
-  within h = sym limits ∙ not-false fits h
+  within : fits ≡ true → within_limits from (message_of kind k v u l) ≡ true
+  within h = sym limits ∙ h
 
   wrong_kind : foreign (message_of kind k v u l) ≡ true → Worked w (Rules.receive (read_area a n) from at (message_of rpc k v u l)) (Answer.Refused Refusal.WrongKind) a w
   wrong_kind strange = as_kind (Answer.Refused Refusal.WrongKind) a w (Laws.wrong_kind a w n from at (message_of kind k v u l) held strange)
 
-  handed_on : (r : Answer) (a' w' : List ℕ) → not fits ≡ false → foreign (message_of kind k v u l) ≡ false → Worked w (Rules.work (read_area a n) from at (message_of kind k v u l)) r a' w' → Worked w (Rules.receive (read_area a n) from at (message_of rpc k v u l)) r a' w'
-  handed_on r a' w' h own done = as_kind r a' w' (Laws.taken_in_lem a w n from at (message_of kind k v u l) held fits r a' w' own limits (not-false fits h) done)
+  handed_on : (r : Answer) (a' w' : List ℕ) → fits ≡ true → foreign (message_of kind k v u l) ≡ false → Worked w (Rules.work (read_area a n) from at (message_of kind k v u l)) r a' w' → Worked w (Rules.receive (read_area a n) from at (message_of rpc k v u l)) r a' w'
+  handed_on r a' w' h own done = as_kind r a' w' (Laws.taken_in_lem a w n from at (message_of kind k v u l) held fits r a' w' own limits h done)
 
 -- ---- where the message is within the limits
 
 abbrev told : Else-not-fits → Rpc → Message
-told c kind = let args = c.args in message_of kind args.key.now args.value.now args.other.now args.list.now
+told c kind = let args = c.args in message_of kind args.message.key.now args.message.value.now args.message.other.now args.message.list.now
 
-limits_at : (c : Else-not-fits) (kind : Rpc) → c.args.rpc ≡ kind → within_limits c.args.from (told c kind) ≡ true
+limits_at : (c : Else-not-fits) (kind : Rpc) → c.args.message.rpc ≡ kind → within_limits c.args.from (told c kind) ≡ true
 limits_at c kind e =
     let args = c.args in
-    within args.area.now args.answer.now args.places args.from args.at args.rpc kind args.key.now args.value.now args.other.now args.list.now args.fits c.requires.0 c.requires.3 e c.if-not-fits.false-raw
+    within args.area.now args.answer.now args.places args.from args.at args.message.rpc kind args.message.key.now args.message.value.now args.message.other.now args.message.list.now c.fits.result c.requires.0 c.fits.ensures e c.if-not-fits.false
 
-wrong_at : (c : Else-not-fits) (kind : Rpc) → c.args.rpc ≡ kind → foreign (told c kind) ≡ true → let args = c.args in Worked args.answer.now (Rules.receive (read_area args.area.now args.places) args.from args.at (told c args.rpc)) (Answer.Refused Refusal.WrongKind) args.area.now args.answer.now
+wrong_at : (c : Else-not-fits) (kind : Rpc) → c.args.message.rpc ≡ kind → foreign (told c kind) ≡ true → let args = c.args in Worked args.answer.now (Rules.receive (read_area args.area.now args.places) args.from args.at (told c args.message.rpc)) (Answer.Refused Refusal.WrongKind) args.area.now args.answer.now
 wrong_at c kind e strange =
     let args = c.args in
-    wrong_kind args.area.now args.answer.now args.places args.from args.at args.rpc kind args.key.now args.value.now args.other.now args.list.now args.fits c.requires.0 c.requires.3 e strange
+    wrong_kind args.area.now args.answer.now args.places args.from args.at args.message.rpc kind args.message.key.now args.message.value.now args.message.other.now args.message.list.now c.fits.result c.requires.0 c.fits.ensures e strange
 
-handed_at : (c : Else-not-fits) (kind : Rpc) (r : Answer) (a' w' : List ℕ) → c.args.rpc ≡ kind → foreign (told c kind) ≡ false → let args = c.args in Worked args.answer.now (Rules.work (read_area args.area.now args.places) args.from args.at (told c kind)) r a' w' → Worked args.answer.now (Rules.receive (read_area args.area.now args.places) args.from args.at (told c args.rpc)) r a' w'
+handed_at : (c : Else-not-fits) (kind : Rpc) (r : Answer) (a' w' : List ℕ) → c.args.message.rpc ≡ kind → foreign (told c kind) ≡ false → let args = c.args in Worked args.answer.now (Rules.work (read_area args.area.now args.places) args.from args.at (told c kind)) r a' w' → Worked args.answer.now (Rules.receive (read_area args.area.now args.places) args.from args.at (told c args.message.rpc)) r a' w'
 handed_at c kind r a' w' e own h =
     let args = c.args in
-    handed_on args.area.now args.answer.now args.places args.from args.at args.rpc kind args.key.now args.value.now args.other.now args.list.now args.fits c.requires.0 c.requires.3 e r a' w' c.if-not-fits.false-raw own h
+    handed_on args.area.now args.answer.now args.places args.from args.at args.message.rpc kind args.message.key.now args.message.value.now args.message.other.now args.message.list.now c.fits.result c.requires.0 c.fits.ensures e r a' w' c.if-not-fits.false own h
 
 pub returns-then-not-fits : goal.returns-then-not-fits
 returns-then-not-fits c =
     let args = c.args in
-    Laws.beyond_limits args.area.now args.answer.now args.places args.from args.at (message_of args.rpc args.key.now args.value.now args.other.now args.list.now) c.requires.0 args.fits _ (c.over_limit.ensures args.key.now args.value.now args.other.now args.list.now) c.requires.3 (not-true args.fits c.if-not-fits.true-raw)
-
-pub request-requires : goal.request-requires
-request-requires c =
-    (c.requires.0, c.requires.1, limits_at (goal.at.request-requires c).Else-not-fits _ c.in-ClientRequest.is)
+    Laws.beyond_limits args.area.now args.answer.now args.places args.from args.at (message_of args.message.rpc args.message.key.now args.message.value.now args.message.other.now args.message.list.now) c.requires.0 c.fits.result _ (c.over_limit.ensures args.message.key.now args.message.value.now args.message.other.now args.message.list.now) c.fits.ensures c.if-not-fits.true
 
 pub set_accept-requires : goal.set_accept-requires
 set_accept-requires c =
@@ -102,15 +98,19 @@ pub promise-requires : goal.promise-requires
 promise-requires c =
     (c.requires.0, c.requires.1, c.requires.2, value_fits _ _ _ _ _ (limits_at (goal.at.promise-requires c).Else-not-fits _ c.in-ProposeRes.is))
 
-pub acceptance-requires : goal.acceptance-requires
-acceptance-requires c =
-    (c.requires.0, c.requires.1, c.requires.2)
-
 pub returns-in-ClientRequest : goal.returns-in-ClientRequest
 returns-in-ClientRequest c = handed_at (goal.at.returns-in-ClientRequest c).Else-not-fits _ _ _ _ c.in-ClientRequest.is refl c.request.ensures
 
 pub returns-in-ClientResponse : goal.returns-in-ClientResponse
-returns-in-ClientResponse c = wrong_at (goal.at.returns-in-ClientResponse c).Else-not-fits _ c.in-ClientResponse.is refl
+returns-in-ClientResponse c =
+    let here = (goal.at.returns-in-ClientResponse c).Else-not-fits in
+    elim c.in-ClientResponse.is [
+      | inl h ↦ wrong_at here _ h.2 refl
+      | inr k ↦ elim k [
+        | inl h ↦ wrong_at here _ h.1 refl
+        | inr h ↦ wrong_at here _ h.2 refl
+      ]
+    ]
 
 pub returns-in-SetAcceptAcceptors : goal.returns-in-SetAcceptAcceptors
 returns-in-SetAcceptAcceptors c = handed_at (goal.at.returns-in-SetAcceptAcceptors c).Else-not-fits _ _ _ _ c.in-SetAcceptAcceptors.is refl (list_set _ _ _ c.set_accept.ensures)
@@ -118,14 +118,8 @@ returns-in-SetAcceptAcceptors c = handed_at (goal.at.returns-in-SetAcceptAccepto
 pub returns-in-SetProposeAcceptors : goal.returns-in-SetProposeAcceptors
 returns-in-SetProposeAcceptors c = handed_at (goal.at.returns-in-SetProposeAcceptors c).Else-not-fits _ _ _ _ c.in-SetProposeAcceptors.is refl (list_set _ _ _ c.set_propose.ensures)
 
-pub returns-in-ProposeReq : goal.returns-in-ProposeReq
-returns-in-ProposeReq c = wrong_at (goal.at.returns-in-ProposeReq c).Else-not-fits _ c.in-ProposeReq.is refl
-
 pub returns-in-ProposeRes : goal.returns-in-ProposeRes
-returns-in-ProposeRes c = handed_at (goal.at.returns-in-ProposeRes c).Else-not-fits _ _ _ _ c.in-ProposeRes.is refl (c.promise.ensures c.args.other.now)
-
-pub returns-in-AcceptReq : goal.returns-in-AcceptReq
-returns-in-AcceptReq c = wrong_at (goal.at.returns-in-AcceptReq c).Else-not-fits _ c.in-AcceptReq.is refl
+returns-in-ProposeRes c = handed_at (goal.at.returns-in-ProposeRes c).Else-not-fits _ _ _ _ c.in-ProposeRes.is refl (c.promise.ensures c.args.message.other.now)
 
 pub returns-in-AcceptRes : goal.returns-in-AcceptRes
-returns-in-AcceptRes c = handed_at (goal.at.returns-in-AcceptRes c).Else-not-fits _ _ _ _ c.in-AcceptRes.is refl (c.acceptance.ensures c.args.other.now)
+returns-in-AcceptRes c = handed_at (goal.at.returns-in-AcceptRes c).Else-not-fits _ _ _ _ c.in-AcceptRes.is refl (c.acceptance.ensures c.args.message.other.now)

@@ -1,12 +1,14 @@
 -- `proposer_acceptance::acceptance` meets its contract: each return is a case of the rules' outcome, in rank order.
 -- Assumes nothing.
+use Rattle.messages.specs.declared.Error.{Error}
+use Rattle.std.specs.Prelude.{Result, Err}
 use mathlib.Core.Path.{◌≡◌, refl, sym, ap, subst, ◌∙◌}
 use mathlib.Core.Bool.{true, false}
 use mathlib.Core.List.{List}
+use mathlib.Core.Logic.{inl, inr}
 use Prim.Native.Nat.{ℕ}
 use Rattle.messages.specs.declared.Address.{Address}
 use Rattle.messages.specs.declared.Ballot.{Ballot}
-use Rattle.messages.specs.declared.Res.{Res}
 use Rattle.messages.specs.declared.answer.Answer.{Answer}
 use Rattle.messages.specs.declared.answer.Refusal.{Refusal}
 use Rattle.messages.specs.Message.{result_of}
@@ -19,23 +21,22 @@ use Rattle.proposer_area.specs.HeldLaws.{place_room}
 use Rattle.proposer_works.specs.Works.{Worked}
 use Rattle.proposer_works.specs.AskLaws.{silent_acceptance}
 use Rattle.proposer_acceptance.specs.AcceptanceLaws.{acceptance_early, acceptance_repeated, acceptance_unasked, acceptance_handed, acceptance_foreign}
-use Rattle.proposer_works.specs.Found.{found_within, Found, found_room, few_waited, few_yeses, few_noes, Tested, tested_asks}
+use Rattle.proposer_works.specs.Found.{Found, found_room, few_waited, few_yeses, few_noes, Tested, tested_asks}
 use Rattle.proposer_acceptance.proofs.acceptance.Goals as goal
 use Rattle.proposer_acceptance.proofs.acceptance.Goals.{After-take_place-f, Else-not-is_waited_for}
 
 -- ---- what the search and the tests have shown
 
-found_at : (c : After-take_place-f) → let args = c.args in Found args.area.now args.places c.find-i.result args.ballot c.take_place-f.result
+found_at : (c : After-take_place-f) → let args = c.args in Found args.area.now args.places c.in-Some.i args.ballot c.take_place-f.result
 found_at c =
-    let search-found = c.find-i in
     record {
       held = c.requires.0;
-      place = search-found.ensures.0;
-      within = found_within _ _ search-found.ensures.1 c.if-i-places.false;
+      place = c.in-Some.ensures.0;
+      within = c.in-Some.ensures.1;
       front = c.take_place-f.ensures.0;
     }
 
-tested_at : (c : Else-not-is_waited_for) → Found c.args.area.now c.args.places c.find-i.result c.args.ballot c.take_place-f.result → let args = c.args in Tested args.area.now args.places c.find-i.result args.ballot c.take_place-f.result args.from
+tested_at : (c : Else-not-is_waited_for) → Found c.args.area.now c.args.places c.in-Some.i c.args.ballot c.take_place-f.result → let args = c.args in Tested args.area.now args.places c.in-Some.i args.ballot c.take_place-f.result args.from
 tested_at c known = record {
   found = known;
   answered = c.has_answered.result;
@@ -48,27 +49,27 @@ tested_at c known = record {
 
 -- ---- by the result, as an enum of the code
 
-module _ (a w : List ℕ) (n i : ℕ) (ballot : Ballot) (f : Front) (from : Address) (t : Tested a n i ballot f from) (second : f.phase ≡ Code.Phase.Accept) (res kind : Res) (v : List ℕ) where
+module _ (a w : List ℕ) (n i : ℕ) (ballot : Ballot) (f : Front) (from : Address) (t : Tested a n i ballot f from) (second : f.phase ≡ Code.Phase.Accept) (res kind : Result Unit Error) (v : List ℕ) where
   handed_on : (r : Answer) (a' w' : List ℕ) → res ≡ kind → foreign_acceptance (result_of kind v) ≡ false → Worked w (acceptance_work (read_area a n) (read_pending (place_in a i)) from (result_of kind v)) r a' w' → Worked w (on_acceptance (read_area a n) (pending_at ballot (read_area a n).places) from (result_of res v)) r a' w'
   handed_on r a' w' e own h =
-      subst (λ (x : Res). Worked w (on_acceptance (read_area a n) (pending_at ballot (read_area a n).places) from (result_of x v)) r a' w') (sym e)
+      subst (λ (x : Result Unit Error). Worked w (on_acceptance (read_area a n) (pending_at ballot (read_area a n).places) from (result_of x v)) r a' w') (sym e)
       (acceptance_handed a w n i ballot f from t.found.held t.found.place t.found.within t.found.front second t.answered t.answers t.not_yet t.waited t.waiting t.there (result_of kind v) r a' w' own h)
 
   foreign : res ≡ kind → foreign_acceptance (result_of kind v) ≡ true → Worked w (on_acceptance (read_area a n) (pending_at ballot (read_area a n).places) from (result_of res v)) (Answer.Refused Refusal.ForeignError) a w
   foreign e strange =
-      subst (λ (x : Res). Worked w (on_acceptance (read_area a n) (pending_at ballot (read_area a n).places) from (result_of x v)) (Answer.Refused Refusal.ForeignError) a w) (sym e)
+      subst (λ (x : Result Unit Error). Worked w (on_acceptance (read_area a n) (pending_at ballot (read_area a n).places) from (result_of x v)) (Answer.Refused Refusal.ForeignError) a w) (sym e)
       (acceptance_foreign a w n i ballot f from t.found.held t.found.place t.found.within t.found.front second t.answered t.answers t.not_yet t.waited t.waiting t.there (result_of kind v) strange)
 
-pub find-i-requires : goal.find-i-requires
-find-i-requires c = c.requires.0.sized
+pub find-requires : goal.find-requires
+find-requires c = c.requires.0.sized
 
-pub returns-then-i-places : goal.returns-then-i-places
-returns-then-i-places c =
+pub returns-in_default : goal.returns-in_default
+returns-in_default c =
     let args = c.args in
-    λ v. silent_acceptance args.area.now args.answer.now args.places _ args.ballot c.requires.0 c.find-i.ensures.0 args.from (result_of args.res v) c.if-i-places.true
+    λ v. silent_acceptance args.area.now args.answer.now args.places args.places args.ballot c.requires.0 (sym c.in_default.ensures) args.from (result_of args.res v) refl
 
 pub take_place-f-requires : goal.take_place-f-requires
-take_place-f-requires c = place_room _ _ _ c.requires.0.sized (found_within _ _ c.find-i.ensures.1 c.if-i-places.false)
+take_place-f-requires c = place_room _ _ _ c.requires.0.sized c.in-Some.ensures.1
 
 pub returns-in-Propose : goal.returns-in-Propose
 returns-in-Propose c =
@@ -85,7 +86,7 @@ pub returns-then-has_answered : goal.returns-then-has_answered
 returns-then-has_answered c =
     let args = c.args in
     let found = found_at (goal.at.returns-then-has_answered c).After-take_place-f in
-    λ v. acceptance_repeated args.area.now args.answer.now args.places _ args.ballot _ args.from found.held found.place found.within found.front c.in_default.is (result_of args.res v) _ c.has_answered.ensures c.if-has_answered.true
+    λ v. acceptance_repeated args.area.now args.answer.now args.places _ args.ballot _ args.from found.held found.place found.within found.front c.in_default-phase.is (result_of args.res v) _ c.has_answered.ensures c.if-has_answered.true
 
 pub is_waited_for-requires : goal.is_waited_for-requires
 is_waited_for-requires c =
@@ -96,7 +97,7 @@ pub returns-then-not-is_waited_for : goal.returns-then-not-is_waited_for
 returns-then-not-is_waited_for c =
     let args = c.args in
     let found = found_at (goal.at.returns-then-not-is_waited_for c).After-take_place-f in
-    λ v. acceptance_unasked args.area.now args.answer.now args.places _ args.ballot _ args.from found.held found.place found.within found.front c.in_default.is _ c.has_answered.ensures c.if-has_answered.false (result_of args.res v) _ c.is_waited_for.ensures c.if-not-is_waited_for.true
+    λ v. acceptance_unasked args.area.now args.answer.now args.places _ args.ballot _ args.from found.held found.place found.within found.front c.in_default-phase.is _ c.has_answered.ensures c.if-has_answered.false (result_of args.res v) _ c.is_waited_for.ensures c.if-not-is_waited_for.true
 
 pub taken-requires : goal.taken-requires
 taken-requires c = (c.requires.0, c.requires.1, tested_asks _ _ _ _ _ _ c.requires.2 (tested_at (goal.at.taken-requires c).Else-not-is_waited_for (found_at (goal.at.taken-requires c).After-take_place-f)))
@@ -107,24 +108,21 @@ turned_down-requires c = (c.requires.0, tested_asks _ _ _ _ _ _ c.requires.2 (te
 pub returns-in-Ok : goal.returns-in-Ok
 returns-in-Ok c =
     let args = c.args in
-    λ v. handed_on args.area.now args.answer.now args.places _ args.ballot _ args.from (tested_at (goal.at.returns-in-Ok c).Else-not-is_waited_for (found_at (goal.at.returns-in-Ok c).After-take_place-f)) c.in_default.is args.res _ v _ _ _ c.in-Ok.is refl c.taken.ensures
+    λ v. handed_on args.area.now args.answer.now args.places _ args.ballot _ args.from (tested_at (goal.at.returns-in-Ok c).Else-not-is_waited_for (found_at (goal.at.returns-in-Ok c).After-take_place-f)) c.in_default-phase.is args.res _ v _ _ _ c.in-Ok.is refl c.taken.ensures
 
 pub returns-in-ProposalRejected : goal.returns-in-ProposalRejected
 returns-in-ProposalRejected c =
     let args = c.args in
-    λ v. foreign args.area.now args.answer.now args.places _ args.ballot _ args.from (tested_at (goal.at.returns-in-ProposalRejected c).Else-not-is_waited_for (found_at (goal.at.returns-in-ProposalRejected c).After-take_place-f)) c.in_default.is args.res _ v (c.in-Err.is ∙ ap Res.Err c.in-ProposalRejected.is) refl
+    let tested = tested_at (goal.at.returns-in-ProposalRejected c).Else-not-is_waited_for (found_at (goal.at.returns-in-ProposalRejected c).After-take_place-f) in
+    elim c.in-ProposalRejected.is [
+      | inl h ↦ λ v. foreign args.area.now args.answer.now args.places _ args.ballot _ args.from tested c.in_default-phase.is args.res _ v (c.in-Err.is ∙ ap Err h.1) refl
+      | inr k ↦ elim k [
+        | inl h ↦ λ v. foreign args.area.now args.answer.now args.places _ args.ballot _ args.from tested c.in_default-phase.is args.res _ v (c.in-Err.is ∙ ap Err h.1) refl
+        | inr h ↦ λ v. foreign args.area.now args.answer.now args.places _ args.ballot _ args.from tested c.in_default-phase.is args.res _ v (c.in-Err.is ∙ ap Err h) refl
+      ]
+    ]
 
 pub returns-in-AcceptRejected : goal.returns-in-AcceptRejected
 returns-in-AcceptRejected c =
     let args = c.args in
-    λ v. handed_on args.area.now args.answer.now args.places _ args.ballot _ args.from (tested_at (goal.at.returns-in-AcceptRejected c).Else-not-is_waited_for (found_at (goal.at.returns-in-AcceptRejected c).After-take_place-f)) c.in_default.is args.res _ v _ _ _ (c.in-Err.is ∙ ap Res.Err c.in-AcceptRejected.is) refl (c.turned_down.ensures args.answer.now)
-
-pub returns-in-CasFailed : goal.returns-in-CasFailed
-returns-in-CasFailed c =
-    let args = c.args in
-    λ v. foreign args.area.now args.answer.now args.places _ args.ballot _ args.from (tested_at (goal.at.returns-in-CasFailed c).Else-not-is_waited_for (found_at (goal.at.returns-in-CasFailed c).After-take_place-f)) c.in_default.is args.res _ v (c.in-Err.is ∙ ap Res.Err c.in-CasFailed.is) refl
-
-pub returns-in-Timeout : goal.returns-in-Timeout
-returns-in-Timeout c =
-    let args = c.args in
-    λ v. foreign args.area.now args.answer.now args.places _ args.ballot _ args.from (tested_at (goal.at.returns-in-Timeout c).Else-not-is_waited_for (found_at (goal.at.returns-in-Timeout c).After-take_place-f)) c.in_default.is args.res _ v (c.in-Err.is ∙ ap Res.Err c.in-Timeout.is) refl
+    λ v. handed_on args.area.now args.answer.now args.places _ args.ballot _ args.from (tested_at (goal.at.returns-in-AcceptRejected c).Else-not-is_waited_for (found_at (goal.at.returns-in-AcceptRejected c).After-take_place-f)) c.in_default-phase.is args.res _ v _ _ _ (c.in-Err.is ∙ ap Err c.in-AcceptRejected.is) refl (c.turned_down.ensures args.answer.now)

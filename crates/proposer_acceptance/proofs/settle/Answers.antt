@@ -39,23 +39,11 @@ overflow_add-promised c = omega (arith, bounds (goal.at.overflow_add-promised c)
 pub overflow_add-end : goal.overflow_add-end
 overflow_add-end c = omega (arith, bounds (goal.at.overflow_add-end c).After-take_place-f)
 
-pub slice_bounds-cas_failed-end : goal.slice_bounds-cas_failed-end
-slice_bounds-cas_failed-end c = omega (arith, bounds (goal.at.slice_bounds-cas_failed-end c).After-take_place-f)
+pub slice_bounds-change-end : goal.slice_bounds-change-end
+slice_bounds-change-end c = omega (arith, bounds (goal.at.slice_bounds-change-end c).After-take_place-f)
 
-pub slice_bounds-cas_failed-end-2 : goal.slice_bounds-cas_failed-end-2
-slice_bounds-cas_failed-end-2 c = omega (arith, bounds (goal.at.slice_bounds-cas_failed-end-2 c).After-take_place-f)
-
-pub slice_bounds-new_mark-end : goal.slice_bounds-new_mark-end
-slice_bounds-new_mark-end c = omega (arith, bounds (goal.at.slice_bounds-new_mark-end c).After-take_place-f)
-
-pub slice_bounds-new_mark-end-2 : goal.slice_bounds-new_mark-end-2
-slice_bounds-new_mark-end-2 c = omega (arith, bounds (goal.at.slice_bounds-new_mark-end-2 c).After-take_place-f)
-
-pub slice_bounds-tell_new-end : goal.slice_bounds-tell_new-end
-slice_bounds-tell_new-end c = omega (arith, bounds (goal.at.slice_bounds-tell_new-end c).After-take_place-f)
-
-pub slice_bounds-tell_new-end-2 : goal.slice_bounds-tell_new-end-2
-slice_bounds-tell_new-end-2 c = omega (arith, bounds (goal.at.slice_bounds-tell_new-end-2 c).After-take_place-f)
+pub slice_bounds-change-end-2 : goal.slice_bounds-change-end-2
+slice_bounds-change-end-2 c = omega (arith, bounds (goal.at.slice_bounds-change-end-2 c).After-take_place-f)
 
 pub tell_new-len-requires : goal.tell_new-len-requires
 tell_new-len-requires c =

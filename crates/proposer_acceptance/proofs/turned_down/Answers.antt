@@ -15,7 +15,7 @@ pub returns-then-short_of : goal.returns-then-short_of
 returns-then-short_of c =
     let header = c.take_header-h in
     let place = c.take_place-f in
-    let raised = c.higher-counter in
+    let raised = c.max-counter in
     let few = c.short_of in
     λ w. turned_noted c.args.area.now w c.args.places c.args.i place.result c.args.from few.result c.requires.0 c.requires.1 place.ensures.0 header.result c.args.last raised.result header.ensures.0 raised.ensures few.ensures _ c.if-short_of.true c.raise_with.ensures
 
@@ -23,6 +23,6 @@ pub returns : goal.returns
 returns c =
     let header = c.take_header-h in
     let place = c.take_place-f in
-    let raised = c.higher-counter in
+    let raised = c.max-counter in
     let few = c.short_of in
     λ w. turned_told c.args.area.now w c.args.places c.args.i place.result c.args.from few.result c.requires.0 c.requires.1 place.ensures.0 header.result c.args.last raised.result header.ensures.0 raised.ensures few.ensures _ _ c.if-short_of.false c.drop_with.ensures.0 c.drop_with.ensures.1

@@ -1,6 +1,6 @@
 -- `proposer_clock::expire` meets its contract. The loop's invariant: what is left to drop and to tell gives what the rules drop and tell.
 -- Assumes nothing.
-use mathlib.Core.Path.{◌≡◌, sym, ap, ◌∙◌}
+use mathlib.Core.Path.{◌≡◌, refl, sym, ap, ◌∙◌}
 use mathlib.Core.Bool.{true}
 use Rattle.std.specs.Prelude.{None}
 use mathlib.Core.List.{List, [], ◌∷◌}
@@ -22,7 +22,6 @@ use Rattle.proposer_clock.specs.Late.{late_of}
 use Rattle.proposer_area.specs.Held.{Held}
 use Rattle.proposer_area.specs.HeldLaws.{place_room}
 use Rattle.proposer_clock.specs.TickLaws.{Expiring, Expired, expire_begins, expire_ends, expire_full, expire_goes_on}
-use borrow.Author.Rules.{rules}
 use Rattle.proposer_clock.proofs.expire.Goals as goal
 
 -- ---- what the calls require
@@ -40,16 +39,16 @@ timeout_now : (a w : List ℕ) (n t k : ℕ) (a' w' : List ℕ) (h : Header) →
 unfolding read_area
 timeout_now a w n t k a' w' h here eh = ap (λ (g : Header). g.timeout) eh ∙ sym (ap (λ (s : Proposer). s.timeout) here.same)
 
-room_now : (a w : List ℕ) (n t k : ℕ) (a' w' : List ℕ) (i : ℕ) → Expiring a w n t k a' w' → (i ≡ n → ⊥) → i ≤ n → place_at i + place_bytes ≤ length a'
-room_now a w n t k a' w' i here other within = place_room a' n i here.held.sized (omega (arith, other, within))
+room_now : (a w : List ℕ) (n t k : ℕ) (a' w' : List ℕ) (i : ℕ) → Expiring a w n t k a' w' → i < n → place_at i + place_bytes ≤ length a'
+room_now a w n t k a' w' i here within = place_room a' n i here.held.sized within
 
 row_room : (a w : List ℕ) (n t k : ℕ) (a' w' : List ℕ) → Expiring a w n t k a' w' → k < n → rows_at + row_bytes * k + row_bytes ≤ length w'
 row_room a w n t k a' w' here more = omega (arith, here.size)
 
 -- ---- the turns
 
-one_more : (a w : List ℕ) (n t k : ℕ) (a' w' : List ℕ) (i : ℕ) (f : Front) (a₁ w₁ : List ℕ) → Expiring a w n t k a' w' → i ≡ late_of (read_area a' n) t (read_places a' header_bytes n) → (i ≡ n → ⊥) → i ≤ n → f ≡ front_of (read_pending (place_in a' i)) → w₁ ≡ sets w' (rows_at + row_bytes * k) (rows_bytes (record { client = f.client; id = f.id } ∷ [])) → a₁ ≡ sets a' (place_at i) (place_image None) → Expiring a w n t (k + 1) a₁ w₁
-one_more a w n t k a' w' i f a₁ w₁ here ei other within ef ew ea = rw add-one (expire_goes_on a w n t k a' w' here i f a₁ w₁ ei (omega (arith, other, within)) ef ew ea)
+one_more : (a w : List ℕ) (n t k : ℕ) (a' w' : List ℕ) (i : ℕ) (f : Front) (a₁ w₁ : List ℕ) → Expiring a w n t k a' w' → i ≡ late_of (read_area a' n) t (read_places a' header_bytes n) → i < n → f ≡ front_of (read_pending (place_in a' i)) → w₁ ≡ sets w' (rows_at + row_bytes * k) (rows_bytes (record { client = f.client; id = f.id } ∷ [])) → a₁ ≡ sets a' (place_at i) (place_image None) → Expiring a w n t (k + 1) a₁ w₁
+one_more a w n t k a' w' i f a₁ w₁ here ei within ef ew ea = rw add-one (expire_goes_on a w n t k a' w' here i f a₁ w₁ ei within ef ew ea)
 
 abbrev Dropped : (a w : List ℕ) (n t k : ℕ) (a' w' : List ℕ) → Type 0
 Dropped a w n t k a' w' = (k ≡ length (late_ones (read_area a n) t (read_area a n).places)) × (a' ≡ area_image (moved (read_area a n) (read_area a n).counter (in_time (read_area a n) t (read_area a n).places))) × (w' ≡ sets w rows_at (rows_bytes (rows_of (late_ones (read_area a n) t (read_area a n).places))))
@@ -67,35 +66,29 @@ pub take_header-h-requires : goal.take_header-h-requires
 take_header-h-requires c = search header_room
 
 pub loop-k-init : goal.loop-k-init
-loop-k-init c = (search rules, search expire_begins)
+loop-k-init c = search expire_begins
 
-pub lowest_late-i-requires : goal.lowest_late-i-requires
-lowest_late-i-requires c = (search size_now, search timeout_now)
+pub lowest_late-requires : goal.lowest_late-requires
+lowest_late-requires c = (search size_now, search timeout_now)
 
-pub shape_of-area-then-i-places : goal.shape_of-area-then-i-places
-shape_of-area-then-i-places c = search same_size
-
-pub returns-then-i-places : goal.returns-then-i-places
-returns-then-i-places c = none_late _ _ _ _ _ _ _ _ c.loop-k.invariant.1 c.lowest_late-i.ensures.0 c.if-i-places.true
+pub returns-in_default : goal.returns-in_default
+returns-in_default c =
+    none_late _ _ _ _ _ _ _ c.args.places c.loop-k.invariant (sym c.in_default.ensures) refl
 
 pub take_place-f-requires : goal.take_place-f-requires
-take_place-f-requires c = search room_now depth 9
+take_place-f-requires c = room_now _ _ _ _ _ _ _ _ c.loop-k.invariant c.in-Some.ensures.1
 
 pub put_row-requires : goal.put_row-requires
 put_row-requires c = search row_room depth 9
 
 pub drop_place-requires : goal.drop_place-requires
-drop_place-requires c = search room_now depth 9
-
-pub overflow_add-k : goal.overflow_add-k
-overflow_add-k c =
-    omega (arith, c.loop-k-test.true, c.ranges.places)
+drop_place-requires c = room_now _ _ _ _ _ _ _ _ c.loop-k.invariant c.in-Some.ensures.1
 
 pub loop-k-preserved : goal.loop-k-preserved
-loop-k-preserved c = (search rules, search one_more depth 12)
-
-pub shape_of-area : goal.shape_of-area
-shape_of-area c = search same_size
+loop-k-preserved c =
+    one_more _ _ _ _ _ _ _ _ _ _ _ c.loop-k.invariant c.in-Some.ensures.0 c.in-Some.ensures.1 c.take_place-f.ensures.0 c.put_row.ensures c.drop_place.ensures
 
 pub returns : goal.returns
-returns c = all_told _ _ _ _ _ _ _ c.loop-k.invariant.1 c.loop-k.invariant.0 c.loop-k-test.false
+returns c =
+    let d = all_told _ _ _ _ _ _ _ c.loop-k.invariant c.loop-k.auto.k-end c.loop-k-test.false in
+    (omega (arith, d.0), d.1, d.2)

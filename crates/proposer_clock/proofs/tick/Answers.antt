@@ -24,8 +24,8 @@ some_told a w n t k back a' w' e ahead told area rows late = tick_told a w n t k
 pub returns-then-clock_back : goal.returns-then-clock_back
 returns-then-clock_back c = search tick_back depth 9
 
-pub returns-then-rows-eq0 : goal.returns-then-rows-eq0
-returns-then-rows-eq0 c = search nothing_late depth 12
+pub returns-in-0 : goal.returns-in-0
+returns-in-0 c = search nothing_late depth 12
 
-pub returns : goal.returns
-returns c = search some_told depth 12
+pub returns-in_default : goal.returns-in_default
+returns-in_default c = search some_told depth 12

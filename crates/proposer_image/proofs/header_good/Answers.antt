@@ -1,73 +1,45 @@
 -- `proposer_image::header_good` meets its contract: each test is a line of `header_good`, in its order.
 -- Assumes nothing.
-use mathlib.Core.Path.{◌≡◌}
-use mathlib.Core.Bool.{Bool, true, false, ◌&&◌}
-use mathlib.Core.List.{List}
-use Prim.Native.Nat.{ℕ, ◌+◌, ◌*◌, ◌≤◌, ◌<◌}
-use borrow.Author.Tests.{ne_eqb, le-leb, lt-leb, not-true, not-false}
-use lib.Dec.{eqb, leb}
+use Rattle.std.proofs.Common.{◌≡◌, List, ℕ, ◌+◌, ◌*◌, ◌&&◌, eqb, leb, refl, arith, sym, ◌∙◌, ap}
+use Rattle.std.proofs.lemmas.Bool.Decides.{nat_tests}
 use Rattle.leaf_fields.specs.Fields.{span, byte, all_zero}
 use Rattle.messages.specs.Limits.{none_zero}
 use Rattle.messages.specs.Answers.{entries}
 use Rattle.proposer_area.specs.declared.Header.{Header}
 use Rattle.proposer_area.specs.Places.{header_in}
 use Rattle.proposer_image.specs.Good.{header_good}
+use Rattle.proposer_image.proofs.Laws.{and_first, and_second}
+use Rattle.proposer_image.proofs.header_good.Goals.{then-h-le-LIST_MOST, else-h-le-LIST_MOST, then-h-le-LIST_MOST-2, else-h-le-LIST_MOST-2, then-area-eq0, else-area-eq0, then-area-eq0-2, else-area-eq0-2, then-zeros, else-zeros, then-zeros-2, else-zeros-2, Joined-zeros-2}
 use Rattle.proposer_image.proofs.header_good.Goals as goal
 
-module _ (a : List ℕ) (h : Header) (eh : h ≡ header_in a) where
-  by_header : header_good a ≡ (leb h.accept 15 && leb h.propose 15 && eqb (byte a 18) 0 && eqb (byte a 19) 0 && all_zero (span a (20 + 2 * h.accept) 50) && all_zero (span a (50 + 2 * h.propose) 80) && none_zero (entries a 20 h.accept) && none_zero (entries a 50 h.propose))
-  unfolding header_good
-  by_header = rw eh
+by_header : (a : List ℕ) (h : Header) → h ≡ header_in a → header_good a ≡ (leb h.accept 15 && leb h.propose 15 && eqb (byte a 18) 0 && eqb (byte a 19) 0 && all_zero (span a (20 + 2 * h.accept) 50) && all_zero (span a (50 + 2 * h.propose) 80) && none_zero (entries a 20 h.accept) && none_zero (entries a 50 h.propose))
+unfolding header_good
+by_header a h eh = rw eh
 
-  long_accept : 15 < h.accept → false ≡ header_good a
-  long_accept l = rw (by_header, lt-leb h.accept 15 l)
+-- all tests but the last
+tests : (c : Joined-zeros-2) → let h = c.take_header-h.result in let a = c.args.area.now in c.if-zeros-2.value ≡ (leb h.accept 15 && leb h.propose 15 && eqb (byte a 18) 0 && eqb (byte a 19) 0 && all_zero (span a (20 + 2 * h.accept) 50) && all_zero (span a (50 + 2 * h.propose) 80) && none_zero (entries a 20 h.accept))
+tests c =
+    let h = c.take_header-h.result in
+    let a = c.args.area.now in
+    let first : c.if-h-le-LIST_MOST-2.value ≡ (leb h.accept 15 && leb h.propose 15 && eqb (byte a 18) 0) =
+    elim c.if-h-le-LIST_MOST.branch [
+      | then-h-le-LIST_MOST w ↦ (elim c.if-h-le-LIST_MOST-2.branch [ then-h-le-LIST_MOST-2 v ↦ grind (arith, nat_tests) | else-h-le-LIST_MOST-2 v ↦ grind (arith, nat_tests) ])
+      | else-h-le-LIST_MOST w ↦ (elim c.if-h-le-LIST_MOST-2.branch [ then-h-le-LIST_MOST-2 v ↦ grind (arith, nat_tests) | else-h-le-LIST_MOST-2 v ↦ grind (arith, nat_tests) ])
+    ] in
+    let second : c.if-area-eq0.value ≡ (leb h.accept 15 && leb h.propose 15 && eqb (byte a 18) 0 && eqb (byte a 19) 0) =
+    elim c.if-area-eq0.branch [ then-area-eq0 w ↦ and_second _ _ _ _ _ first w.if-area-eq0.true refl w.value-is | else-area-eq0 w ↦ and_first _ _ _ _ first w.if-area-eq0.false w.value-is ] in
+    let third : c.if-area-eq0-2.value ≡ (leb h.accept 15 && leb h.propose 15 && eqb (byte a 18) 0 && eqb (byte a 19) 0 && all_zero (span a (20 + 2 * h.accept) 50)) =
+    elim c.if-area-eq0-2.branch [ then-area-eq0-2 w ↦ and_second _ _ _ _ _ second w.if-area-eq0-2.true w.zeros.ensures w.value-is | else-area-eq0-2 w ↦ and_first _ _ _ _ second w.if-area-eq0-2.false w.value-is ] in
+    let fourth : c.if-zeros.value ≡ (leb h.accept 15 && leb h.propose 15 && eqb (byte a 18) 0 && eqb (byte a 19) 0 && all_zero (span a (20 + 2 * h.accept) 50) && all_zero (span a (50 + 2 * h.propose) 80)) =
+    elim c.if-zeros.branch [ then-zeros w ↦ and_second _ _ _ _ _ third w.if-zeros.true w.zeros-then-zeros.ensures w.value-is | else-zeros w ↦ and_first _ _ _ _ third w.if-zeros.false w.value-is ] in
+    elim c.if-zeros-2.branch [ then-zeros-2 w ↦ and_second _ _ _ _ _ fourth w.if-zeros-2.true (w.none_zero.ensures ∙ ap none_zero w.list.ensures) w.value-is | else-zeros-2 w ↦ and_first _ _ _ _ fourth w.if-zeros-2.false w.value-is ]
 
-  long_propose : h.accept ≤ 15 → 15 < h.propose → false ≡ header_good a
-  long_propose la l = rw (by_header, le-leb h.accept 15 la, lt-leb h.propose 15 l)
+pub returns-then-none_zero : goal.returns-then-none_zero
+returns-then-none_zero c =
+    let t = tests (goal.at.returns-then-none_zero c).Joined-zeros-2 in
+    and_second _ _ _ _ _ t c.if-none_zero.true (c.none_zero-then-none_zero.ensures ∙ ap none_zero c.list-then-none_zero.ensures) refl ∙ sym (by_header c.args.area.now c.take_header-h.result c.take_header-h.ensures.0)
 
-  module _ (la : h.accept ≤ 15) (lp : h.propose ≤ 15) where
-    first_gap : (byte a 18 ≡ 0 → ⊥) → false ≡ header_good a
-    first_gap ne = rw (by_header, le-leb h.accept 15 la, le-leb h.propose 15 lp, ne_eqb (byte a 18) 0 ne)
-
-    second_gap : byte a 18 ≡ 0 → (byte a 19 ≡ 0 → ⊥) → false ≡ header_good a
-    second_gap e ne = rw (by_header, le-leb h.accept 15 la, le-leb h.propose 15 lp, e, ne_eqb (byte a 19) 0 ne)
-
-    module _ (e18 : byte a 18 ≡ 0) (e19 : byte a 19 ≡ 0) where
-      by_lists : header_good a ≡ (all_zero (span a (20 + 2 * h.accept) 50) && all_zero (span a (50 + 2 * h.propose) 80) && none_zero (entries a 20 h.accept) && none_zero (entries a 50 h.propose))
-      by_lists = rw (by_header, le-leb h.accept 15 la, le-leb h.propose 15 lp, e18, e19)
-
-      accept_rest : (r : Bool) → r ≡ all_zero (span a (20 + 2 * h.accept) 50) → r ≡ false → false ≡ header_good a
-      accept_rest r e t = rw (by_lists, ← e, t)
-
-      propose_rest : (r s : Bool) → r ≡ all_zero (span a (20 + 2 * h.accept) 50) → r ≡ true → s ≡ all_zero (span a (50 + 2 * h.propose) 80) → s ≡ false → false ≡ header_good a
-      propose_rest r s e t es ts = rw (by_lists, ← e, t, ← es, ts)
-
-      accept_zero : (r s u : Bool) → r ≡ all_zero (span a (20 + 2 * h.accept) 50) → r ≡ true → s ≡ all_zero (span a (50 + 2 * h.propose) 80) → s ≡ true → u ≡ none_zero (entries a 20 h.accept) → u ≡ false → false ≡ header_good a
-      accept_zero r s u e t es ts eu tu = rw (by_lists, ← e, t, ← es, ts, ← eu, tu)
-
-      propose_zero : (r s u v : Bool) → r ≡ all_zero (span a (20 + 2 * h.accept) 50) → r ≡ true → s ≡ all_zero (span a (50 + 2 * h.propose) 80) → s ≡ true → u ≡ none_zero (entries a 20 h.accept) → u ≡ true → v ≡ none_zero (entries a 50 h.propose) → v ≡ header_good a
-      propose_zero r s u v e t es ts eu tu ev = rw (by_lists, ← e, t, ← es, ts, ← eu, tu, ← ev)
-
-pub returns-then-h-gt-LIST_MOST : goal.returns-then-h-gt-LIST_MOST
-returns-then-h-gt-LIST_MOST c = search long_accept
-
-pub returns-then-h-gt-LIST_MOST-2 : goal.returns-then-h-gt-LIST_MOST-2
-returns-then-h-gt-LIST_MOST-2 c = search long_propose
-
-pub returns-then-area-ne0 : goal.returns-then-area-ne0
-returns-then-area-ne0 c = search first_gap depth 9
-
-pub returns-then-area-ne0-2 : goal.returns-then-area-ne0-2
-returns-then-area-ne0-2 c = search second_gap depth 9
-
-pub returns-then-not-zeros : goal.returns-then-not-zeros
-returns-then-not-zeros c = search (accept_rest, not-true, not-false) depth 12
-
-pub returns-then-not-zeros-2 : goal.returns-then-not-zeros-2
-returns-then-not-zeros-2 c = search (propose_rest, not-true, not-false) depth 14
-
-pub returns-then-not-none_zero : goal.returns-then-not-none_zero
-returns-then-not-none_zero c = search (accept_zero, not-true, not-false) depth 16
-
-pub returns : goal.returns
-returns c = search (propose_zero, not-true, not-false) depth 16
+pub returns-else-none_zero : goal.returns-else-none_zero
+returns-else-none_zero c =
+    let t = tests (goal.at.returns-else-none_zero c).Joined-zeros-2 in
+    and_first _ _ _ _ t c.if-none_zero.false refl ∙ sym (by_header c.args.area.now c.take_header-h.result c.take_header-h.ensures.0)

@@ -1,57 +1,44 @@
 -- `proposer_image::is_image` meets its contract: the header, the places and the ballots are the parts of the test.
 -- Assumes nothing.
-use mathlib.Core.Path.{◌≡◌, ap}
-use mathlib.Core.Bool.{Bool, true, false, not, ◌&&◌}
-use mathlib.Core.List.{List}
-use Prim.Native.Nat.{ℕ, ◌≤◌}
-use borrow.Author.Tests.{not-true, not-false}
-use lib.ListN.{length}
-use Rattle.proposer_place.specs.Area.{read_places, ballots_of, sized, distinct, long_at, is_image}
-use Rattle.proposer_area.specs.declared.Header.{Header}
-use Rattle.proposer_area.specs.Places.{header_in}
-use Rattle.proposer_image.specs.Good.{header_good, places_good}
+use Rattle.std.proofs.Common.{◌≡◌, List, ℕ, ◌&&◌, ◌≤◌, length, refl, sym, ap, ◌∙◌, true, arith}
 use Rattle.leaf_fields.specs.Fields.{Bytes}
+use Rattle.proposer_area.specs.declared.Header.{Header}
+use Rattle.proposer_place.specs.Area.{sized, long_at}
+use Rattle.proposer_image.specs.Good.{header_good, places_good}
 use Rattle.proposer_area.specs.Turns.{sized_of}
 use Rattle.proposer_image.specs.GoodLaws.{image_parts}
-use native.Mathlib.Omega.{arith}
+use Rattle.proposer_image.proofs.Laws.{and_first, and_second}
+use Rattle.proposer_image.proofs.is_image.Goals.{then-header_good, else-header_good, Joined-header_good}
 use Rattle.proposer_image.proofs.is_image.Goals as goal
-use Rattle.proposer_image.proofs.is_image.Goals.{After-shared_slice_known-1}
 
 header_room : (a : List ℕ) (n : ℕ) → sized a n ≡ true → 80 ≤ length a
 header_room a n h = omega (arith, sized_of a n h)
 
-module _ (a : List ℕ) (n : ℕ) (bytes : Bytes a) (size : sized a n ≡ true) (r : Bool) (er : r ≡ header_good a) where
-  other_header : not r ≡ true → false ≡ is_image a n
-  other_header tr = rw (image_parts a n bytes size, ← er, not-true r tr)
-
-  module _ (tr : not r ≡ false) (h : Header) (eh : h ≡ header_in a) (s : Bool) (es : s ≡ places_good h.counter a 80 n) where
-    by_places : is_image a n ≡ (s && distinct (ballots_of (read_places a 80 n)))
-    by_places =
-        let counter : h.counter ≡ long_at a 0 = ap (λ (g : Header). g.counter) eh in
-        rw (image_parts a n bytes size, ← er, not-false r tr, ← counter, ← es)
-
-    other_places : not s ≡ true → false ≡ is_image a n
-    other_places ts = rw (by_places, not-true s ts)
-
-    by_ballots : (u : Bool) → not s ≡ false → u ≡ distinct (ballots_of (read_places a 80 n)) → u ≡ is_image a n
-    by_ballots u ts eu = rw (by_places, not-false s ts) eu
+-- the tests of the header and of the places
+tests : (c : Joined-header_good) → c.if-header_good.value ≡ (header_good c.args.area.now && places_good (long_at c.args.area.now 0) c.args.area.now 80 c.args.places)
+tests c =
+    elim c.if-header_good.branch [
+      | then-header_good w ↦ and_second _ _ _ _ _ c.header_good.ensures w.if-header_good.true (w.places_good.ensures ∙ ap (λ (h : Header). places_good h.counter c.args.area.now 80 c.args.places) w.take_header.ensures.0) w.value-is
+      | else-header_good w ↦ and_first _ _ _ _ c.header_good.ensures w.if-header_good.false w.value-is
+    ]
 
 -- the bytes of a slice are bytes
-area_bytes : (c : After-shared_slice_known-1) → Bytes c.args.area.now
+area_bytes : (c : Joined-header_good) → Bytes c.args.area.now
 unfolding Bytes
 area_bytes c = λ i. (c.type_inv.area i).fits
 
 pub header_good-requires : goal.header_good-requires
 header_good-requires c = search header_room
 
-pub returns-then-not-header_good : goal.returns-then-not-header_good
-returns-then-not-header_good c = search (other_header, area_bytes (goal.at.returns-then-not-header_good c).After-shared_slice_known-1) depth 12
+pub take_header-requires : goal.take_header-requires
+take_header-requires c = search header_room
 
-pub take_header-h-requires : goal.take_header-h-requires
-take_header-h-requires c = search header_room
+pub returns-then-places_good : goal.returns-then-places_good
+returns-then-places_good c =
+    let j = (goal.at.returns-then-places_good c).Joined-header_good in
+    and_second _ _ _ _ _ (tests j) c.if-places_good.true c.ballots_distinct.ensures refl ∙ sym (image_parts _ _ (area_bytes j) c.requires)
 
-pub returns-then-not-places_good : goal.returns-then-not-places_good
-returns-then-not-places_good c = search (other_places, area_bytes (goal.at.returns-then-not-places_good c).After-shared_slice_known-1) depth 16
-
-pub returns : goal.returns
-returns c = search (by_ballots, area_bytes (goal.at.returns c).After-shared_slice_known-1) depth 16
+pub returns-else-places_good : goal.returns-else-places_good
+returns-else-places_good c =
+    let j = (goal.at.returns-else-places_good c).Joined-header_good in
+    and_first _ _ _ _ (tests j) c.if-places_good.false refl ∙ sym (image_parts _ _ (area_bytes j) c.requires)

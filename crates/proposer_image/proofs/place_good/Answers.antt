@@ -1,10 +1,6 @@
 -- `proposer_image::place_good` meets its contract: a free place is good as zeros, and any other as a used one.
 -- Assumes nothing.
-use mathlib.Core.Path.{◌≡◌}
-use mathlib.Core.Bool.{Bool, true, false}
-use mathlib.Core.List.{List}
-use Prim.Native.Nat.{ℕ}
-use lib.Dec.{eqb}
+use Rattle.std.proofs.Common.{◌≡◌, Bool, true, false, List, ℕ, eqb}
 use Rattle.leaf_fields.specs.Fields.{byte, all_zero}
 use Rattle.proposer_image.specs.Good.{used_good, place_good}
 use Rattle.proposer_image.proofs.place_good.Goals as goal
@@ -21,5 +17,5 @@ module _ (b : List ℕ) (c : ℕ) (z : Bool) (ez : z ≡ eqb (byte b 0) 0) where
 pub returns-then-is_free : goal.returns-then-is_free
 returns-then-is_free c = search free
 
-pub returns : goal.returns
-returns c = search used
+pub returns-else-is_free : goal.returns-else-is_free
+returns-else-is_free c = search used

@@ -35,18 +35,18 @@ propose_row_room a n t l a₀ a₁ a₂ h e₀ e₁ e₂ = omega (arith, accepti
 propose_count_room : (a : List ℕ) (n t : ℕ) (l a₀ a₁ a₂ : List ℕ) → sized a n ≡ true → a₀ ≡ replicate (length a) 0 → a₁ ≡ sets a₀ timeout_at (to_le 8 t) → a₂ ≡ set (sets a₁ accept_list_at (list_row l)) accept_count_at (length l) → propose_count_at < length a₂
 propose_count_room a n t l a₀ a₁ a₂ h e₀ e₁ e₂ = omega (arith, accepting_long a n t l a₀ a₁ h e₀ e₁ a₂ e₂)
 
-pub put-requires : goal.put-requires
-put-requires c = search timeout_room
+pub write-requires : goal.write-requires
+write-requires c = search timeout_room
 
 pub put_list-requires : goal.put_list-requires
 put_list-requires c =
     let sizes = c.requires.0 in
-    (accept_row_room _ _ _ _ _ sizes c.clear.ensures c.put.ensures, accept_count_room _ _ _ _ _ sizes c.clear.ensures c.put.ensures, search list_short)
+    (accept_row_room _ _ _ _ _ sizes c.clear.ensures c.write.ensures, accept_count_room _ _ _ _ _ sizes c.clear.ensures c.write.ensures, search list_short)
 
 pub put_list-requires-2 : goal.put_list-requires-2
 put_list-requires-2 c =
     let sizes = c.requires.0 in
-    (propose_row_room _ _ _ _ _ _ _ sizes c.clear.ensures c.put.ensures c.put_list.ensures, propose_count_room _ _ _ _ _ _ _ sizes c.clear.ensures c.put.ensures c.put_list.ensures, search list_short)
+    (propose_row_room _ _ _ _ _ _ _ sizes c.clear.ensures c.write.ensures c.put_list.ensures, propose_count_room _ _ _ _ _ _ _ sizes c.clear.ensures c.write.ensures c.put_list.ensures, search list_short)
 
 pub returns : goal.returns
 returns c = search started depth 9

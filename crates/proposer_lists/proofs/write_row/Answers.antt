@@ -37,13 +37,10 @@ unfolding entry_bytes
 all_stored d list r i past e = rw (drop_of_length-le list past) at e
 
 pub loop-i-init : goal.loop-i-init
-loop-i-init c = (search rules, search rules, search zeros_hold)
-
-pub overflow_cast-list : goal.overflow_cast-list
-overflow_cast-list c = omega (arith, c.type_inv.list c.loop-i.i)
+loop-i-init c = (search rules, search zeros_hold)
 
 pub loop-i-preserved : goal.loop-i-preserved
-loop-i-preserved c = (search rules, search rules, search one_more)
+loop-i-preserved c = (search rules, one_more _ _ _ _ _ c.loop-i-test.true c.loop-i.invariant.1 c.write.ensures)
 
 pub returns : goal.returns
 returns c = search all_stored

@@ -1,7 +1,7 @@
 -- `proposer_lists::write_row` meets its contract. The loop's invariant: what is left to store gives the final row.
 -- Assumes nothing.
 use mathlib.Core.Path.{◌≡◌}
-use Prim.Native.Nat.{◌-◌, ◌*◌, ◌≤◌}
+use Prim.Native.Nat.{◌*◌}
 use lib.ListN.{length, drop}
 use lib.Seq.{sets}
 use Rattle.messages.specs.Answers.{entry_bytes}
@@ -9,7 +9,4 @@ use Rattle.proposer_place.specs.Area.{list_bytes, list_row}
 use Rattle.proposer_lists.proofs.write_row.Given as goal
 
 abbrev pub invariant-loop-i : goal.invariant-loop-i
-invariant-loop-i l = (l.i ≤ length l.list) × (length l.d ≡ list_bytes) × (sets l.d (2 * l.i) (entry_bytes (drop l.i l.list)) ≡ list_row l.list)
-
-abbrev pub decreases-loop-i : goal.decreases-loop-i
-decreases-loop-i l = length l.list - l.i
+invariant-loop-i l = (length l.d ≡ list_bytes) × (sets l.d (2 * l.i) (entry_bytes (drop l.i l.list)) ≡ list_row l.list)

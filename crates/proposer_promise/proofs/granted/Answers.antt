@@ -1,5 +1,6 @@
 -- `proposer_promise::granted` meets its contract: each return is a case of the rules' outcome.
 -- Assumes nothing.
+use Rattle.std.specs.Prelude.{Option, None, Some}
 use mathlib.Core.Path.{◌≡◌, refl}
 use mathlib.Core.Bool.{true}
 use mathlib.Core.List.{List}
@@ -12,7 +13,7 @@ use Rattle.leaf_fields.specs.Fields.{byte, Bytes}
 use Rattle.leaf_fields.specs.Rows.{bytes_none}
 use Rattle.messages.specs.declared.Address.{Address}
 use Rattle.messages.specs.declared.Ballot.{Ballot}
-use Rattle.messages.specs.declared.OptionValue.{OptionValue}
+use Rattle.messages.specs.declared.Lent.{Lent}
 use Rattle.messages.specs.Message.{given}
 use Rattle.messages.specs.Limits.{value_most, option_fits}
 use Rattle.messages.specs.Answers.{bytes_of}
@@ -31,13 +32,13 @@ use Rattle.proposer_promise.proofs.granted.Goals as goal
 use Rattle.proposer_promise.proofs.granted.Goals.{Else-not-above}
 
 -- the promised value, within the limits, fits its row
-short_value : (mark : OptionValue) (v : List ℕ) → ((j : ℕ) → Fits w8 (byte v j)) → option_fits (given mark v) ≡ true → Short value_most (bytes_of (given mark v))
+short_value : (mark : Option Lent) (v : List ℕ) → ((j : ℕ) → Fits w8 (byte v j)) → option_fits (given mark v) ≡ true → Short value_most (bytes_of (given mark v))
 unfolding Bytes
-short_value OptionValue.None v bytes fits = record { short = omega arith; bytes = bytes_none }
-short_value OptionValue.Some v bytes fits = record { short = leb-true (length v) value_most fits; bytes = λ j. omega (arith, bytes j) }
+short_value None v bytes fits = record { short = omega arith; bytes = bytes_none }
+short_value (Some mark) v bytes fits = record { short = leb-true (length v) value_most fits; bytes = λ j. omega (arith, bytes j) }
 
 -- what is noted is lawful
-lawful_noted : (a : List ℕ) (n i : ℕ) (from : Address) (accepted : Ballot) (mark : OptionValue) (v : List ℕ) → Held a n → Asks a n i → from.0 < 2 ^ 16 → accepted.0 < 2 ^ 64 → ((j : ℕ) → Fits w8 (byte v j)) → option_fits (given mark v) ≡ true → Lawful (promised_by (read_pending (place_in a i)) from accepted (given mark v))
+lawful_noted : (a : List ℕ) (n i : ℕ) (from : Address) (accepted : Ballot) (mark : Option Lent) (v : List ℕ) → Held a n → Asks a n i → from.0 < 2 ^ 16 → accepted.0 < 2 ^ 64 → ((j : ℕ) → Fits w8 (byte v j)) → option_fits (given mark v) ≡ true → Lawful (promised_by (read_pending (place_in a i)) from accepted (given mark v))
 lawful_noted a n i from accepted mark v held asks hf ha bytes fits =
     promised_lawful (read_pending (place_in a i)) from accepted (given mark v) (lawful_pending a n held i asks.pends) hf asks.more_yeses ha (short_value mark v bytes fits)
 

@@ -16,7 +16,7 @@ pub returns-then-short_of : goal.returns-then-short_of
 returns-then-short_of c =
     let header = c.take_header-h in
     let place = c.take_place-f in
-    let raised = c.higher-counter in
+    let raised = c.max-counter in
     let few = c.short_of in
     λ b v. refusal_noted c.args.area.now c.args.answer.now c.args.places c.args.i place.result header.result c.args.from c.args.last b v raised.result few.result c.requires.0 c.requires.2 place.ensures.0 header.ensures.0 raised.ensures few.ensures _ c.if-short_of.true c.raise_with.ensures
 
@@ -24,7 +24,7 @@ pub returns-then-f : goal.returns-then-f
 returns-then-f c =
     let header = c.take_header-h in
     let place = c.take_place-f in
-    let raised = c.higher-counter in
+    let raised = c.max-counter in
     let few = c.short_of in
     λ b v. refusal_told c.args.area.now c.args.answer.now c.args.places c.args.i place.result header.result c.args.from c.args.last b v raised.result few.result c.requires.0 c.requires.2 place.ensures.0 header.ensures.0 raised.ensures few.ensures _ _ c.if-short_of.false c.if-f.true c.drop_with.ensures.0 c.drop_with.ensures.1
 
@@ -32,7 +32,7 @@ pub returns-then-counter : goal.returns-then-counter
 returns-then-counter c =
     let header = c.take_header-h in
     let place = c.take_place-f in
-    let raised = c.higher-counter in
+    let raised = c.max-counter in
     let few = c.short_of in
     λ b v. refusal_refused c.args.area.now c.args.answer.now c.args.places c.args.i place.result header.result c.args.from c.args.last b v raised.result few.result c.requires.0 c.requires.2 place.ensures.0 header.ensures.0 raised.ensures few.ensures c.if-short_of.false c.if-f.false c.if-counter.true
 
@@ -40,6 +40,6 @@ pub returns : goal.returns
 returns c =
     let header = c.take_header-h in
     let place = c.take_place-f in
-    let raised = c.higher-counter in
+    let raised = c.max-counter in
     let few = c.short_of in
     λ b v. refusal_retried c.args.area.now c.args.answer.now c.args.places c.args.i place.result header.result c.args.from c.args.last b v raised.result few.result c.requires.0 c.requires.2 place.ensures.0 header.ensures.0 raised.ensures few.ensures _ _ _ c.if-short_of.false c.if-f.false (search rules) c.if-counter.false c.propose_again.ensures

@@ -6,7 +6,7 @@ use mathlib.Core.List.{List, []}
 use Rattle.std.specs.Prelude.{None}
 use Prim.Native.Nat.{ℕ, ◌+◌, ◌-◌, ◌*◌, ◌^◌, ◌≤◌, ◌<◌}
 use lib.ListN.{length, take, drop}
-use Rattle.messages.specs.declared.OptionValue.{OptionValue}
+use Rattle.messages.specs.declared.Lent.{Lent}
 use Rattle.messages.specs.Message.{request_of}
 use Rattle.proposer_place.specs.declared.front.Phase as Code
 use Rattle.proposer_place.specs.declared.front.Front.{Front}
@@ -39,12 +39,11 @@ returns-then-h c =
     let args = c.args in
     counter_refused args.area.now args.answer.now args.places header.result args.from args.at args.id (request_of args.req args.key.now args.value.now args.other.now) c.requires.0 header.ensures.0 c.if-h.true
 
-pub returns-then-i-places : goal.returns-then-i-places
-returns-then-i-places c =
+pub returns-in_default : goal.returns-in_default
+returns-in_default c =
     let header = c.take_header-h in
-    let free = c.lowest_free-i in
     let args = c.args in
-    room_refused args.area.now args.answer.now args.places header.result args.from args.at args.id (request_of args.req args.key.now args.value.now args.other.now) c.requires.0 header.ensures.0 free.result (search rules) c.if-h.false free.ensures.0 c.if-i-places.true
+    room_refused args.area.now args.answer.now args.places header.result args.from args.at args.id (request_of args.req args.key.now args.value.now args.other.now) c.requires.0 header.ensures.0 args.places (search rules) c.if-h.false (sym c.in_default.ensures) refl
 
 pub slice_bounds-send-end-2 : goal.slice_bounds-send-end-2
 slice_bounds-send-end-2 c = omega (arith, held_header)
@@ -65,18 +64,18 @@ slice_bounds-fill_place-end c =
 pub fill_place-requires : goal.fill_place-requires
 fill_place-requires c =
     let header = c.take_header-h in
-    let free = c.lowest_free-i in
+    let free = c.in-Some in
     let first = c.first_value-first in
     let second = c.second_value-second in
     let args = c.args in
-    let within : free.result < args.places = omega (arith, free.ensures.1, c.if-i-places.false) in
+    let within = free.ensures.1 in
     let sizes = request_sizes args.from args.id args.req args.key.now args.value.now args.other.now c.requires.2 in
     let few = propose_few args.area.now args.places header.result c.requires.0 header.ensures.0 in
     let first-size : length first.result.now ≤ 256 = rw (first.ensures args.key.now args.other.now) sizes.1 in
     let second-size : length second.result.now ≤ 256 = rw (second.ensures args.key.now args.value.now) sizes.2 in
     let waited = entries_sent args.answer.now _ [] args.key.now (take (50 + 2 * header.result.propose - 50) (drop 50 args.area.now)) args.places header.result.propose c.requires.1 c.send.ensures few in (
-      place_room args.area.now args.places free.result c.requires.0.sized within,
-      free_there args.area.now args.places free.result c.requires.0 free.ensures.0 within,
+      place_room args.area.now args.places free.i c.requires.0.sized within,
+      free_there args.area.now args.places free.i c.requires.0 free.ensures.0 within,
       record { key = omega (arith, sizes.0); waited = omega (arith, few); yeses = omega arith; noes = omega arith },
       omega (arith, waited, few),
       sizes.0,
@@ -92,7 +91,7 @@ put_counter-requires c = omega (arith, c.area-1.given, held_header _ _ c.require
 pub returns : goal.returns
 returns c =
     let header = c.take_header-h in
-    let free = c.lowest_free-i in
+    let free = c.in-Some in
     let first = c.first_value-first in
     let second = c.second_value-second in
     let args = c.args in
@@ -103,7 +102,7 @@ returns c =
       key_len = length args.key.now;
       first_len = length first.result.now;
       second_len = length second.result.now;
-      mark = OptionValue.None;
+      mark = None;
       value_len = 0;
       client = args.from;
       id = args.id;
@@ -114,10 +113,10 @@ returns c =
       acks_from = 0;
       nacks_from = 0;
     } in
-    request_taken args.area.now args.answer.now args.places header.result args.from args.at args.id args.req args.key.now args.value.now args.other.now c.requires.0 c.requires.1 c.requires.2 header.ensures.0 free.result first.result.now second.result.now f _ _ _ _
+    request_taken args.area.now args.answer.now args.places header.result args.from args.at args.id args.req args.key.now args.value.now args.other.now c.requires.0 c.requires.1 c.requires.2 header.ensures.0 free.i first.result.now second.result.now f _ _ _ _
     (λ j. omega (arith, c.type_inv.key j))
     (λ j. omega (arith, c.type_inv.value j))
     (λ j. omega (arith, c.type_inv.other j))
-    (from_fits (goal.at.returns c).Start) (search rules) (search rules) (search rules) c.if-h.false free.ensures.0 free.ensures.1 c.if-i-places.false
+    (from_fits (goal.at.returns c).Start) (search rules) (search rules) (search rules) c.if-h.false free.ensures.0 (omega (arith, free.ensures.1)) (λ e. absurd (omega (arith, free.ensures.1)))
     (first.ensures args.key.now args.other.now) (second.ensures args.key.now args.value.now) refl
     c.send.ensures c.fill_place.ensures c.put_counter.ensures c.broadcast.ensures

@@ -47,32 +47,23 @@ overflow_add-both-2 c = omega (arith, bounds (goal.at.overflow_add-both-2 c).Aft
 pub overflow_add-promised : goal.overflow_add-promised
 overflow_add-promised c = omega (arith, bounds (goal.at.overflow_add-promised c).After-take_place-f)
 
-pub slice_bounds-new_mark-end : goal.slice_bounds-new_mark-end
-slice_bounds-new_mark-end c = omega (arith, bounds (goal.at.slice_bounds-new_mark-end c).After-take_place-f)
+pub overflow_add-change : goal.overflow_add-change
+overflow_add-change c = omega (arith, bounds (goal.at.overflow_add-change c).After-take_place-f)
 
-pub overflow_add-promised-2 : goal.overflow_add-promised-2
-overflow_add-promised-2 c = omega (arith, bounds (goal.at.overflow_add-promised-2 c).After-take_place-f)
+pub slice_bounds-change-end : goal.slice_bounds-change-end
+slice_bounds-change-end c = omega (arith, bounds (goal.at.slice_bounds-change-end c).After-take_place-f)
 
-pub slice_bounds-new_mark-end-2 : goal.slice_bounds-new_mark-end-2
-slice_bounds-new_mark-end-2 c = omega (arith, bounds (goal.at.slice_bounds-new_mark-end-2 c).After-take_place-f)
-
-pub slice_bounds-send_new-end : goal.slice_bounds-send_new-end
-slice_bounds-send_new-end c = omega (arith, bounds (goal.at.slice_bounds-send_new-end c).After-take_place-f)
-
-pub overflow_add-promised-3 : goal.overflow_add-promised-3
-overflow_add-promised-3 c = omega (arith, bounds (goal.at.overflow_add-promised-3 c).After-take_place-f)
-
-pub slice_bounds-send_new-end-2 : goal.slice_bounds-send_new-end-2
-slice_bounds-send_new-end-2 c = omega (arith, bounds (goal.at.slice_bounds-send_new-end-2 c).After-take_place-f)
+pub slice_bounds-change-end-2 : goal.slice_bounds-change-end-2
+slice_bounds-change-end-2 c = omega (arith, bounds (goal.at.slice_bounds-change-end-2 c).After-take_place-f)
 
 pub overflow_add-key-2 : goal.overflow_add-key-2
 overflow_add-key-2 c = omega (arith, bounds (goal.at.overflow_add-key-2 c).After-take_place-f)
 
-pub slice_bounds-send_new-end-3 : goal.slice_bounds-send_new-end-3
-slice_bounds-send_new-end-3 c = omega (arith, bounds (goal.at.slice_bounds-send_new-end-3 c).After-take_place-f)
+pub slice_bounds-send_new-end : goal.slice_bounds-send_new-end
+slice_bounds-send_new-end c = omega (arith, bounds (goal.at.slice_bounds-send_new-end c).After-take_place-f)
 
-pub slice_bounds-send_new-end-4 : goal.slice_bounds-send_new-end-4
-slice_bounds-send_new-end-4 c = omega (arith, bounds (goal.at.slice_bounds-send_new-end-4 c).After-take_place-f)
+pub slice_bounds-send_new-end-2 : goal.slice_bounds-send_new-end-2
+slice_bounds-send_new-end-2 c = omega (arith, bounds (goal.at.slice_bounds-send_new-end-2 c).After-take_place-f)
 
 pub send_new-len-requires : goal.send_new-len-requires
 send_new-len-requires c =

@@ -1,97 +1,61 @@
--- `storage::get_accepted_value` meets its contract: the area's size, then each case of the search.
+-- `storage::get_accepted_value` meets its contract: the area's size, then the key's block, if it has one.
 -- Assumes nothing.
-use mathlib.Core.Path.{◌≡◌, refl, ◌∙◌}
-use mathlib.Core.Bool.{true}
-use mathlib.Core.List.{List}
-use Rattle.std.specs.Prelude.{Option, None, Some}
-use Prim.Native.Nat.{ℕ, ◌+◌, ◌-◌, ◌*◌, ◌≤◌}
-use borrow.Author.Tests.{eq-eqb, ne_eqb}
-use lib.ListN.{length, take, drop}
-use lib.Seq.{sets}
-use Rattle.messages.specs.declared.answer.Refusal.{Refusal}
-use Rattle.messages.specs.Message.{Value}
+use Rattle.std.proofs.Common.{◌≡◌, refl, sym, ap, ◌∙◌, true, List, ℕ, Option, Some, None, Ok, Bor, length, eq-eqb}
+use Rattle.std.specs.Prelude.{option_map}
+use Rattle.std.specs.Array.{IsWholeChunk}
+use Rattle.std.proofs.lemmas.List.Edits.{sets}
+use Rattle.messages.specs.Answers.{marked, bytes_of}
+use Rattle.messages.specs.Message.{Value, lent}
 use Rattle.messages.specs.Refusals.{first_due}
-use Rattle.messages.specs.Answers.{bytes_of}
-use Rattle.storage_block.specs.Block.{fresh, readable, register_of}
-use Rattle.storage_search.specs.declared.Found.{Found}
-use Rattle.storage_search.specs.Table.{block_at, slots, register_by}
-use Rattle.storage_search.specs.Blocks.{lent_block, lent_length}
-use Rattle.storage.specs.declared.GotValue.{GotValue}
-use Rattle.storage.specs.declared.Place.{Place}
-use Rattle.storage.specs.Operations.{key_tests, register_on, place_of, value_answer, got_value, value_written, value_tests, ValueGot}
-use Rattle.storage.specs.Laws.{register_on_lem, register_here, refused_of, known_of, room_of, readable_of}
-use borrow.Author.Rules.{rules}
+use Rattle.messages.specs.declared.Lent.{Lent}
+use Rattle.storage_block.specs.Block.{readable, register_of}
+use Rattle.storage_search.specs.Table.{slots, where_is}
+use Rattle.storage.specs.Operations.{key_tests, value_tests, register_on, value_answer, block_by_place, ValueGot}
+use Rattle.storage.specs.Laws.{register_from, register_got, readable_got}
 use Rattle.storage.proofs.get_accepted_value.Goals as goal
 
-wrong_area : (t : List ℕ) (n : ℕ) (k a : List ℕ) → (length a ≡ 256 → ⊥) → ValueGot t n k a (GotValue.Refused Refusal.AreaSize) a
-wrong_area t n k a ne = record { answer = rw (ne_eqb (length a) 256 ne); area = rw (ne_eqb (length a) 256 ne) }
+-- the block that was found
+module _ (t : List ℕ) (n : ℕ) (k : List ℕ) (o : Option (Bor (List ℕ))) (due : first_due (key_tests t n k) ≡ None) (here : option_map (λ b. b.now) o ≡ block_by_place t (where_is k (slots t n))) where
+  can_read : (b : Bor (List ℕ)) → o ≡ Some b → readable b.now ≡ true
+  can_read b e = readable_got t n k due b.now (ap (option_map (λ b'. b'.now)) (sym e) ∙ here)
 
-module _ (t : List ℕ) (n : ℕ) (k a : List ℕ) (la : length a ≡ 256) where
-  -- the area is no ground for a refusal
-  due_value : first_due (value_tests t n k a) ≡ first_due (key_tests t n k)
-  due_value = rw (eq-eqb (length a) 256 la)
+  module _ (a₀ a : List ℕ) (w : IsWholeChunk a₀ a 256) where
+    got : (v : Option Value) (a' : List ℕ) → (register_from k (option_map (λ b. b.now) o)).value ≡ v → a' ≡ sets a 0 (bytes_of v) → ValueGot t n k a₀ (Ok (value_answer v)) a'
+    got v a' ev ea =
+        let all : first_due (value_tests t n k a₀) ≡ None = rw (eq-eqb (length a₀) 256 w.long) due in
+        let value : (register_on t n k).value ≡ v = rw (register_got t n k due, ← here) ev in
+        record { answer = rw (all, value); area = rw (all, value, ← w.same) ea }
 
-  got : (o : Option Refusal) (v : Option Value) (r : GotValue) (a' : List ℕ) → first_due (key_tests t n k) ≡ o → (register_on t n k).value ≡ v → r ≡ got_value o v → a' ≡ value_written o a v → ValueGot t n k a r a'
-  got o v r a' eo ev er ea =
-      let due : first_due (value_tests t n k a) ≡ o = due_value ∙ eo in
-      record { answer = rw (due, ev) er; area = rw (due, ev) ea }
+    absent : o ≡ None → ValueGot t n k a₀ (Ok None) a
+    absent e = got None a (rw e) refl
 
-  module _ (p : Place) (ep : p ≡ place_of t n k) where
-    refused : (x : Refusal) → p ≡ Place.Refused x → ValueGot t n k a (GotValue.Refused x) a
-    refused x e = got (Some x) (register_on t n k).value (GotValue.Refused x) a (refused_of t n k p ep x e) refl refl refl
+    -- what the mark says of a value
+    unmarked : (v : Option Value) (m : Option Lent) → m ≡ marked v → m ≡ None → value_answer v ≡ None
+    unmarked None m e h = refl
+    unmarked (Some v) m e h = cc
 
-    module _ (f : Found) (e : p ≡ Place.Known f) where
-      present : (i : ℕ) (r : GotValue) (a' : List ℕ) → f ≡ Found.At i → r ≡ value_answer (register_of (take (i * 512 + 512 - i * 512) (drop (i * 512) t))).value → a' ≡ sets a 0 (bytes_of (register_of (take (i * 512 + 512 - i * 512) (drop (i * 512) t))).value) → ValueGot t n k a r a'
-      present i r a' ei er ea =
-          let w = known_of t n k p ep f e in
-          got None (register_of (block_at t i)).value r a' w.due (rw (register_here t n k i w.lent (w.here ∙ ei))) (rw lent_block at er) (rw lent_block at ea)
+    marked_so : (v : Option Value) (m : Option Lent) (len : ℕ) → len ≡ length (bytes_of v) → m ≡ marked v → m ≡ (Some lent) → value_answer v ≡ Some len
+    marked_so None m len el e h = cc
+    marked_so (Some v) m len el e h = ap Some (sym el)
 
-      absent : (g : Found) → f ≡ g → register_by k (slots t n) g ≡ fresh k → ValueGot t n k a GotValue.None a
-      absent g eg er =
-          let w = known_of t n k p ep f e in
-          got None None GotValue.None a w.due (rw (register_on_lem t n k g (w.here ∙ eg), er)) refl refl
+    module _ (b : Bor (List ℕ)) (eb : o ≡ Some b) (m : Option Lent) (len : ℕ) (a' : List ℕ) (em : m ≡ marked (register_of b.now).value) (el : len ≡ length (bytes_of (register_of b.now).value)) (ea : a' ≡ sets a 0 (bytes_of (register_of b.now).value)) where
+      whole : ValueGot t n k a₀ (Ok (value_answer (register_of b.now).value)) a'
+      whole = got (register_of b.now).value a' (rw eb) ea
 
-lent_readable : (t : List ℕ) (n : ℕ) (k : List ℕ) (p : Place) (f : Found) (i : ℕ) → p ≡ place_of t n k → p ≡ Place.Known f → f ≡ Found.At i → readable (take (i * 512 + 512 - i * 512) (drop (i * 512) t)) ≡ true
-lent_readable t n k p f i ep e ei = rw lent_block (readable_of t n k p ep f i e ei)
+      none : m ≡ None → ValueGot t n k a₀ (Ok None) a'
+      none h = rw (unmarked (register_of b.now).value m em h) at whole
 
--- the block that was found is in the table
-room_at : (c : goal.In-At) → c.in-At.i * 512 + 512 ≤ length c.args.table.now
-room_at c = search room_of
+      some : m ≡ (Some lent) → ValueGot t n k a₀ (Ok (Some len)) a'
+      some h = rw (marked_so (register_of b.now).value m len el em h) at whole
 
-pub returns-then-area-ne-VALUE_AREA : goal.returns-then-area-ne-VALUE_AREA
-returns-then-area-ne-VALUE_AREA c = search wrong_area
+pub copy_value-len-requires : goal.copy_value-len-requires
+copy_value-len-requires c = can_read _ _ _ _ c.in_ok-b.ensures.0 c.in_ok-b.ensures.1 _ c.in-Some-2.is
 
-pub overflow_mul-a : goal.overflow_mul-a
-overflow_mul-a c =
-    let room = room_at c in
-    search rules
+pub returns-in_default-2 : goal.returns-in_default-2
+returns-in_default-2 c = absent _ _ _ _ c.in_ok-b.ensures.0 c.in_ok-b.ensures.1 _ _ c.in-Some.ensures.cases c.in_default-2.is
 
-pub overflow_add-a : goal.overflow_add-a
-overflow_add-a c =
-    let room = room_at c in
-    search rules
+pub returns-in-None : goal.returns-in-None
+returns-in-None c = none _ _ _ _ c.in_ok-b.ensures.0 c.in_ok-b.ensures.1 _ _ c.in-Some.ensures.cases _ c.in-Some-2.is _ _ _ c.value_mark.ensures c.copy_value-len.ensures.0 c.copy_value-len.ensures.1 c.in-None.is
 
-pub slice_bounds-value_in-end : goal.slice_bounds-value_in-end
-slice_bounds-value_in-end c =
-    let room = room_at c in
-    search rules
-
-pub value_in-requires : goal.value_in-requires
-value_in-requires c =
-    let room : c.in-At.i * 512 + 512 ≤ length c.args.table.now = search room_of in
-    (search lent_length, search lent_readable depth 9, search rules)
-
-pub returns-in-Refused : goal.returns-in-Refused
-returns-in-Refused c = search refused depth 8
-
-pub returns-in-At : goal.returns-in-At
-returns-in-At c = search present depth 12
-
-pub returns-in-Free : goal.returns-in-Free
-returns-in-Free c = search absent depth 9
-
-pub returns-in-Full : goal.returns-in-Full
-returns-in-Full c = search absent depth 9
-
-pub returns-in-Twice : goal.returns-in-Twice
-returns-in-Twice c = search absent depth 9
+pub returns-in-Some-value_mark : goal.returns-in-Some-value_mark
+returns-in-Some-value_mark c = some _ _ _ _ c.in_ok-b.ensures.0 c.in_ok-b.ensures.1 _ _ c.in-Some.ensures.cases _ c.in-Some-2.is _ _ _ c.value_mark.ensures c.copy_value-len.ensures.0 c.copy_value-len.ensures.1 c.in-Some-value_mark.is

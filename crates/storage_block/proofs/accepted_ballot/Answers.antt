@@ -1,14 +1,8 @@
--- `storage_block::accepted_ballot` meets its contract: bytes 16 to 23 are the field of the register.
+-- `storage_block::accepted_ballot` meets its contract: the eight bytes are the field of the register.
 -- Assumes nothing.
-use mathlib.Core.Path.{◌≡◌}
-use Prim.Native.Nat.{ℕ}
-use Rattle.messages.specs.declared.Ballot.{Ballot}
 use Rattle.storage_block.specs.Block.{register_of}
 use Rattle.storage_block.proofs.accepted_ballot.Goals as goal
 
-ballot_of : (x y : ℕ) → x ≡ y → ◌≡◌ {A = Ballot} (record { 0 = x }) (record { 0 = y })
-ballot_of x y e = rw e
-
 pub returns : goal.returns
 unfolding register_of
-returns c = search ballot_of
+returns c = cc

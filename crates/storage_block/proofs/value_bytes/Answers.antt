@@ -1,18 +1,13 @@
 -- `storage_block::value_bytes` meets its contract: the value lies at byte 88, as long as its length says; in a free block it has no bytes.
 -- Assumes nothing.
-use mathlib.Core.Path.{◌≡◌, sym, ap, ◌∙◌}
-use mathlib.Core.Bool.{true}
-use mathlib.Core.List.{List}
-use Prim.Native.Nat.{ℕ, ◌+◌, ◌-◌, ◌≤◌}
-use lib.ListN.{length, take, drop}
+use Rattle.std.proofs.Common.{◌≡◌, List, true, ℕ, ◌+◌, ◌-◌, ◌≤◌, length, take, drop, sym, ap, ◌∙◌, arith}
 use Rattle.leaf_fields.specs.Fields.{from_le, part}
 use Rattle.messages.specs.Answers.{bytes_of}
 use Rattle.storage_block.specs.Block.{readable, register_of, value_length}
 use Rattle.storage_block.specs.Read.{read_value}
-use native.Mathlib.Omega.{arith}
 use Rattle.storage_block.proofs.value_bytes.Goals as goal
 
-room : (b : List ℕ) (n : ℕ) → length b ≡ 512 → readable b ≡ true → n ≡ from_le (part b 4 2) → 88 + n ≤ length b
+room : (b : List ℕ) (n : ℕ) → length b ≡ 512 → readable b ≡ true → n ≡ from_le (part b 4 2) → 88 + n ≤ 512
 room b n l g e = omega (arith, (read_value b l g).short)
 
 the_bytes : (b v : List ℕ) (n : ℕ) → length b ≡ 512 → readable b ≡ true → n ≡ from_le (part b 4 2) → v ≡ take (88 + n - 88) (drop 88 b) → v ≡ bytes_of (register_of b).value

@@ -1,5 +1,6 @@
 -- `storage_write::write` meets its contract: the front, the key and the value, stored into zeros one after the other, are the body, which is then sealed.
 -- Assumes nothing.
+use Rattle.std.specs.Prelude.{Option}
 use mathlib.Core.Path.{◌≡◌, refl, ap, ◌∙◌}
 use mathlib.Core.List.{List, ◌++◌, append_assoc}
 use Prim.Native.Nat.{ℕ, ◌-◌, ◌≤◌}
@@ -11,7 +12,7 @@ use Rattle.messages.specs.Message.{given}
 use Rattle.messages.specs.Fit.{marked-given}
 use Rattle.messages.specs.Answers.{bytes_of}
 use Rattle.messages.specs.declared.Ballot.{Ballot}
-use Rattle.messages.specs.declared.OptionValue.{OptionValue}
+use Rattle.messages.specs.declared.Lent.{Lent}
 use Rattle.leaf_fields.specs.Fields.{to_le, padded}
 use Rattle.storage_block.specs.Block.{front, body, sealed, image, register}
 use borrow.Author.Rules.{rules}
@@ -46,11 +47,11 @@ filled f key v lf hk hv =
     let long : length (f ++ (pk ++ pv)) ≡ 504 = omega (arith, length-append f (pk ++ pv), length-append pk pv) in
     ap (λ (r : List ℕ). take 504 (sets r 88 v)) keyed ∙ ap (take 504) (valued ∙ shape) ∙ take_at (f ++ (pk ++ pv)) tail 504 long
 
-length_front : (k len : ℕ) (seen accepted : Ballot) (value : OptionValue) → length (front k seen accepted value len) ≡ 24
+length_front : (k len : ℕ) (seen accepted : Ballot) (value : Option Lent) → length (front k seen accepted value len) ≡ 24
 unfolding front to_le
 length_front k len seen accepted value = refl
 
-written : (b n₀ f n₃ n₄ n₅ key s bytes : List ℕ) (seen accepted : Ballot) (value : OptionValue) → length b ≡ 512 → n₀ ≡ replicate (length b) 0 → s ≡ bytes_of (given value bytes) → f ≡ front (length key) seen accepted value (length s) → n₃ ≡ sets (put_mid 0 (24 - 0) n₀ f) 24 key → n₄ ≡ sets n₃ 88 s → n₅ ≡ sealed (take 504 n₄) → length key ≤ 64 → length (bytes_of (given value bytes)) ≤ 256 → n₅ ≡ image (register key seen accepted (given value bytes))
+written : (b n₀ f n₃ n₄ n₅ key s bytes : List ℕ) (seen accepted : Ballot) (value : Option Lent) → length b ≡ 512 → n₀ ≡ replicate (length b) 0 → s ≡ bytes_of (given value bytes) → f ≡ front (length key) seen accepted value (length s) → n₃ ≡ sets (put_mid 0 (24 - 0) n₀ f) 24 key → n₄ ≡ sets n₃ 88 s → n₅ ≡ sealed (take 504 n₄) → length key ≤ 64 → length (bytes_of (given value bytes)) ≤ 256 → n₅ ≡ image (register key seen accepted (given value bytes))
 unfolding image body
 written b n₀ f n₃ n₄ n₅ key s bytes seen accepted value l e₀ es ef e₃ e₄ e₅ hk hv =
     let lf : length f ≡ 24 = ap length ef ∙ length_front (length key) (length s) seen accepted value in
@@ -64,7 +65,7 @@ pub write_front-requires : goal.write_front-requires
 write_front-requires c = (search lent_zeros, search rules, search short)
 
 pub copy-requires-2 : goal.copy-requires-2
-copy-requires-2 c = omega (arith, short _ _ c.present-stored.ensures c.requires.2)
+copy-requires-2 c = omega (arith, short _ _ c.present-stored.ensures c.requires.1)
 
 pub returns : goal.returns
 returns c = search written depth 12

@@ -1,51 +1,44 @@
--- `proposer_area::search::held` meets its contract. The loop's invariant: the search of what is left of the places gives the answer.
+-- `proposer_area::search::held` meets its contract: a test of each chunk.
 -- Assumes nothing.
-use mathlib.Core.Path.{◌≡◌, refl}
-use mathlib.Core.Bool.{Bool, true, false, not, ◌&&◌, ◌||◌}
-use mathlib.Core.List.{List, ◌∷◌}
-use Rattle.std.specs.Prelude.{Option, None, Some}
-use Prim.Native.Nat.{ℕ, ◌+◌, ◌-◌, ◌≤◌, ◌<◌}
-use lib.Dec.{eqb}
+use Rattle.std.proofs.Common.{rules, tests, ◌≡◌, not, ◌&&◌, ℕ, List, drop, eqb, arith, ◌∙◌, sym, ap}
+use Rattle.std.proofs.lemmas.Iterator.{YieldsList-from_slice}
+use Rattle.std.proofs.lemmas.Iterator.Search.{any_from_yields_List}
 use Rattle.leaf_fields.specs.Fields.{byte}
 use Rattle.messages.specs.declared.Ballot.{Ballot}
-use Rattle.proposer_rules.specs.State.{Pending, listed}
+use Rattle.std.proofs.Common.{Bool, map, ◌-◌}
+use Rattle.std.proofs.lemmas.List.{take_rest}
+use Rattle.std.specs.List.{list_any}
+use Rattle.proposer_rules.specs.State.{listed}
+use Rattle.proposer_area.specs.Places.{place_at, places_in}
 use Rattle.proposer_rules.specs.Rules.{is_ballot}
 use Rattle.proposer_place.specs.Area.{read_pending, read_place, read_places, ballots_of}
-use Rattle.proposer_area.specs.Places.{place_at, place_in}
-use Rattle.proposer_area.specs.Turns.{lent_place, sized_of, places_turn, places_past, lent_length, passes, lent_passes}
-use borrow.Author.Rules.{rules}
+use Rattle.proposer_area.specs.Turns.{sized_of}
+use Rattle.proposer_area.specs.Chunks.{chunks_all, any_place, listed_any, places_behind}
 use Rattle.proposer_area.proofs.search.held.Goals as goal
 
-turn_of : (b : Ballot) (x : Option Pending) (l : List (Option Pending)) → listed b.0 (ballots_of (x ∷ l)) ≡ (passes (is_ballot b) x || listed b.0 (ballots_of l))
-unfolding listed ballots_of
-turn_of b None l = refl
-turn_of b (Some p) l = refl
+pub places_in-requires : goal.places_in-requires
+places_in-requires c = omega (arith, (sized_of _ _ c.requires.0).bytes)
 
-module _ (a : List ℕ) (n i : ℕ) (b : Ballot) (o : Bool) (left : listed b.0 (ballots_of (read_places a (place_at i) (n - i))) ≡ o) where
-  turned : (r : Bool) → i < n → r ≡ (not (eqb (byte (lent_place a i) 0) 0) && is_ballot b (read_pending (lent_place a i))) → (r || listed b.0 (ballots_of (read_places a (place_at (i + 1)) (n - (i + 1))))) ≡ o
-  turned r more e = rw (places_turn a n i more, turn_of b (read_place (place_in a i)) (read_places a (place_at (i + 1)) (n - (i + 1))), ← lent_passes (is_ballot b) a i r e) at left
+pub offset_bounds-places_in-first : goal.offset_bounds-places_in-first
+offset_bounds-places_in-first c =
+    let f = chunks_all _ _ _ c.requires.0 c.places_in.ensures in
+    omega arith
 
-  found : (r : Bool) → i < n → r ≡ (not (eqb (byte (lent_place a i) 0) 0) && is_ballot b (read_pending (lent_place a i))) → r ≡ true → true ≡ o
-  found r more e h = rw h at (turned r more e)
+pub slice_bounds-iter-count : goal.slice_bounds-iter-count
+slice_bounds-iter-count c =
+    let f = chunks_all _ _ _ c.requires.0 c.places_in.ensures in
+    omega arith
 
-  next : (r : Bool) → i < n → r ≡ (not (eqb (byte (lent_place a i) 0) 0) && is_ballot b (read_pending (lent_place a i))) → r ≡ false → listed b.0 (ballots_of (read_places a (place_at (i + 1)) (n - (i + 1)))) ≡ o
-  next r more e h = rw h at (turned r more e)
+pub slice_bounds-iter-start : goal.slice_bounds-iter-start
+slice_bounds-iter-start c =
+    let f = chunks_all _ _ _ c.requires.0 c.places_in.ensures in
+    search rules
 
-  past : n ≤ i → false ≡ o
-  unfolding listed ballots_of
-  past h = rw (places_past a n i h) at left
-
-pub loop-i-init : goal.loop-i-init
-loop-i-init c = (search sized_of, search rules, refl)
-
-pub holds-requires : goal.holds-requires
-holds-requires c = search lent_length
-
-pub returns-then-holds : goal.returns-then-holds
-returns-then-holds c = search found depth 7
-
-pub loop-i-preserved : goal.loop-i-preserved
-loop-i-preserved c = (search rules, search rules, search next depth 7)
+held_by : (b : Ballot) (a : List ℕ) (n f : ℕ) (r : Bool) → r ≡ list_any (λ s. not (eqb (byte s 0) 0) && is_ballot b (read_pending s)) (drop f (places_in a n)) → r ≡ listed b.0 (ballots_of (read_places a (place_at f) (n - f)))
+held_by b a n f r e = e ∙ any_place (is_ballot b) (drop f (places_in a n)) ∙ listed_any b (map read_place (drop f (places_in a n))) ∙ ap (λ l. listed b.0 (ballots_of l)) (sym (places_behind a n f))
 
 pub returns : goal.returns
-returns c = search past
+returns c =
+    let f = chunks_all _ _ _ c.requires.0 c.places_in.ensures in
+    let all : c.iter.result.rest.now ≡ drop c.args.first (places_in c.args.area.now c.args.places) = c.iter.ensures.rest ∙ take_rest c.places_in.result.now c.args.first ∙ ap (drop c.args.first) f.0 in
+    held_by _ _ _ _ _ (any_from_yields_List (λ b. not (eqb (byte b 0) 0) && is_ballot c.args.ballot (read_pending b)) _ _ c.any.result c.any.ensures.ran (YieldsList-from_slice (drop c.args.first (places_in c.args.area.now c.args.places)) all) (λ x b q k. search (rules, tests)))

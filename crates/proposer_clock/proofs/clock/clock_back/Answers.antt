@@ -1,51 +1,32 @@
--- `proposer_clock::clock::clock_back` meets its contract. The loop's invariant: what is left of the places gives the answer.
+-- `proposer_clock::clock::clock_back` meets its contract: a test of each chunk.
 -- Assumes nothing.
-use mathlib.Core.Path.{◌≡◌, refl}
-use mathlib.Core.Bool.{Bool, true, false, not, ◌&&◌, ◌||◌}
-use mathlib.Core.List.{List, ◌∷◌}
-use Rattle.std.specs.Prelude.{Option, None, Some}
-use Prim.Native.Nat.{ℕ, ◌+◌, ◌-◌, ◌≤◌, ◌<◌}
-use native.Mathlib.Nat.{zero-add, sub-zero}
-use lib.Dec.{eqb, ltb}
+use Rattle.std.proofs.Common.{◌≡◌, refl, ap, ◌∙◌, sym, rules, tests, arith, Bool, List, [], ◌∷◌, ℕ, ◌||◌, not, ◌&&◌, eqb, Option, None, Some, map}
+use lib.Dec.{ltb}
+use Rattle.std.specs.List.{list_any}
+use Rattle.std.proofs.lemmas.Iterator.{YieldsList-from_slice}
+use Rattle.std.proofs.lemmas.Iterator.Search.{any_from_yields_List}
 use Rattle.leaf_fields.specs.Fields.{byte}
 use Rattle.proposer_rules.specs.State.{Pending}
 use Rattle.proposer_rules.specs.Rules.{clock_back}
 use Rattle.proposer_place.specs.Area.{read_pending, read_place, read_places}
-use Rattle.proposer_area.specs.Places.{place_at, place_in}
-use Rattle.proposer_area.specs.Turns.{lent_place, sized_of, places_turn, places_past, lent_length, passes, lent_passes}
-use borrow.Author.Rules.{rules}
+use Rattle.proposer_area.specs.Places.{places_in}
+use Rattle.proposer_area.specs.Turns.{sized_of, passes}
+use Rattle.proposer_area.specs.Chunks.{chunks_all, any_place, places_read}
 use Rattle.proposer_clock.proofs.clock.clock_back.Goals as goal
 
-turn_of : (t : ℕ) (x : Option Pending) (l : List (Option Pending)) → clock_back t (x ∷ l) ≡ (passes (λ (p : Pending). ltb t p.received_at) x || clock_back t l)
+ahead_any : (t : ℕ) (l : List (Option Pending)) → list_any (passes (λ p. ltb t p.received_at)) l ≡ clock_back t l
 unfolding clock_back
-turn_of t None l = refl
-turn_of t (Some p) l = refl
+ahead_any t [] = refl
+ahead_any t (None ∷ l) = ahead_any t l
+ahead_any t (Some p ∷ l) = ap (λ r. ltb t p.received_at || r) (ahead_any t l)
 
-module _ (a : List ℕ) (n i t : ℕ) (o : Bool) (left : clock_back t (read_places a (place_at i) (n - i)) ≡ o) where
-  turned : (r : Bool) → i < n → r ≡ (not (eqb (byte (lent_place a i) 0) 0) && ltb t (read_pending (lent_place a i)).received_at) → (r || clock_back t (read_places a (place_at (i + 1)) (n - (i + 1)))) ≡ o
-  turned r more e = rw (places_turn a n i more, turn_of t (read_place (place_in a i)) (read_places a (place_at (i + 1)) (n - (i + 1))), ← lent_passes (λ (p : Pending). ltb t p.received_at) a i r e) at left
+back_by : (a : List ℕ) (n t : ℕ) (r : Bool) → r ≡ list_any (λ b. not (eqb (byte b 0) 0) && ltb t (read_pending b).received_at) (places_in a n) → r ≡ clock_back t (read_places a 80 n)
+back_by a n t r e = e ∙ any_place (λ p. ltb t p.received_at) (places_in a n) ∙ ahead_any t (map read_place (places_in a n)) ∙ ap (clock_back t) (sym (places_read a n))
 
-  found : (r : Bool) → i < n → r ≡ (not (eqb (byte (lent_place a i) 0) 0) && ltb t (read_pending (lent_place a i)).received_at) → r ≡ true → true ≡ o
-  found r more e h = rw h at (turned r more e)
-
-  next : (r : Bool) → i < n → r ≡ (not (eqb (byte (lent_place a i) 0) 0) && ltb t (read_pending (lent_place a i)).received_at) → r ≡ false → clock_back t (read_places a (place_at (i + 1)) (n - (i + 1))) ≡ o
-  next r more e h = rw h at (turned r more e)
-
-  past : n ≤ i → false ≡ o
-  unfolding clock_back
-  past h = rw (places_past a n i h) at left
-
-pub loop-i-init : goal.loop-i-init
-loop-i-init c = (search sized_of, search rules, simp (zero-add, sub-zero))
-
-pub ahead-requires : goal.ahead-requires
-ahead-requires c = search lent_length
-
-pub returns-then-ahead : goal.returns-then-ahead
-returns-then-ahead c = search found depth 7
-
-pub loop-i-preserved : goal.loop-i-preserved
-loop-i-preserved c = (search rules, search rules, search next depth 7)
+pub places_in-requires : goal.places_in-requires
+places_in-requires c = omega (arith, sized_of _ _ c.requires)
 
 pub returns : goal.returns
-returns c = search past
+returns c =
+    let f = chunks_all _ _ _ c.requires c.places_in.ensures in
+    back_by _ _ _ _ (any_from_yields_List (λ b. not (eqb (byte b 0) 0) && ltb c.args.t (read_pending b).received_at) _ _ c.any.result c.any.ensures.ran (YieldsList-from_slice (places_in c.args.area.now c.args.places) (c.iter.ensures.rest ∙ f.0)) (λ x b q k. search (rules, tests)))

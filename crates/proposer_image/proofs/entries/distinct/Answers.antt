@@ -1,41 +1,17 @@
--- `proposer_image::entries::distinct` meets its contract. The loop's invariant: what is left of the entries gives the answer.
+-- `proposer_image::entries::distinct` meets its contract: a test of each entry against those behind it.
 -- Assumes nothing.
-use mathlib.Core.Path.{◌≡◌}
-use mathlib.Core.Bool.{Bool, true, false, not, ◌&&◌}
-use mathlib.Core.List.{List}
-use Prim.Native.Nat.{ℕ, ◌+◌, ◌-◌, ◌*◌, ◌≤◌, ◌<◌}
-use native.Mathlib.Nat.{add-zero, sub-zero}
+use Rattle.std.proofs.Common.{rules, tests, List, ℕ, not, ◌+◌, ◌-◌, ◌∙◌, take, drop, length}
+use Rattle.std.proofs.lemmas.Iterator.{YieldsList-from_slice}
+use Rattle.std.proofs.lemmas.Iterator.Consumers.{YieldsList-from_enumerate, YieldsList-at}
+use Rattle.std.proofs.lemmas.Iterator.Search.{all_from_yields_List}
 use Rattle.leaf_fields.specs.Fields.{from_le, part}
-use Rattle.messages.specs.Answers.{entries}
 use Rattle.proposer_rules.specs.State.{listed}
-use Rattle.proposer_area.specs.Turns.{entries_turn, entries_past}
-use Rattle.proposer_place.specs.Area.{distinct}
-use borrow.Author.Rules.{rules}
+use Rattle.proposer_area.specs.Entries.{numbers}
+use Rattle.proposer_image.specs.Each.{distinct_entries}
 use Rattle.proposer_image.proofs.entries.distinct.Goals as goal
 
-module _ (s : List ℕ) (at n i : ℕ) (o : Bool) (left : distinct (entries s (at + 2 * i) (n - i)) ≡ o) where
-  turned : (x : ℕ) (r : Bool) → i < n → x ≡ from_le (part s (at + 2 * i) 2) → r ≡ listed x (entries s (at + 2 * (i + 1)) (n - (i + 1))) → (not r && distinct (entries s (at + 2 * (i + 1)) (n - (i + 1)))) ≡ o
-  unfolding distinct
-  turned x r more e er = rw (entries_turn s at n i more, ← e, ← er) at left
-
-  twice : (x : ℕ) (r : Bool) → i < n → x ≡ from_le (part s (at + 2 * i) 2) → r ≡ listed x (entries s (at + 2 * (i + 1)) (n - (i + 1))) → r ≡ true → false ≡ o
-  twice x r more e er h = rw h at (turned x r more e er)
-
-  next : (x : ℕ) (r : Bool) → i < n → x ≡ from_le (part s (at + 2 * i) 2) → r ≡ listed x (entries s (at + 2 * (i + 1)) (n - (i + 1))) → r ≡ false → distinct (entries s (at + 2 * (i + 1)) (n - (i + 1))) ≡ o
-  next x r more e er h = rw h at (turned x r more e er)
-
-  past : n ≤ i → true ≡ o
-  unfolding distinct
-  past h = rw (entries_past s at n i h) at left
-
-pub loop-i-init : goal.loop-i-init
-loop-i-init c = (search rules, simp (add-zero, sub-zero))
-
-pub returns-then-listed : goal.returns-then-listed
-returns-then-listed c = search twice depth 9
-
-pub loop-i-preserved : goal.loop-i-preserved
-loop-i-preserved c = (search rules, search next depth 9)
-
 pub returns : goal.returns
-returns c = search past
+returns c =
+    let l = c.args.list.now in
+    all_from_yields_List (λ (p : ℕ × List ℕ). not (listed (from_le (part p.1 0 2)) (numbers (take (length l - (p.0 + 1)) (drop (p.0 + 1) l))))) _ _ c.all.result c.all.ensures.ran (YieldsList-from_enumerate (YieldsList-at c.enumerate.ensures.source (YieldsList-from_slice l c.iter.ensures.rest)) c.enumerate.ensures.count) (λ x b q k. search (rules, tests))
+    ∙ distinct_entries l

@@ -59,8 +59,8 @@ pub copy-requires : goal.copy-requires
 copy-requires c = omega (arith, used_length)
 
 pub put-requires : goal.put-requires
-put-requires c = (omega (arith, used_length _ c.before.before.before.before.before.before.before.before.before.before.before.before.before.before.before.before.before.before.requires.0), small _ _ _ _ c.take-f.ensures.1 c.before.before.before.before.before.before.before.before.before.before.before.before.before.before.before.before.before.before.requires.1 c.again.ensures)
+put-requires c = (omega (arith, used_length _ c.requires.0), small _ _ _ _ c.take-f.ensures.1 c.requires.1 c.again.ensures)
 
 pub returns : goal.returns
 returns c =
-    entered c.before.before.before.before.before.before.before.before.before.before.before.before.before.before.before.before.before.before.before.before.before.args.list.now c.type_inv.list _ _ _ _ _ _ _ _ _ c.before.before.before.before.before.before.before.before.before.before.before.before.before.before.before.before.before.before.before.before.before.requires.0 c.before.before.before.before.before.before.before.before.before.before.before.before.before.before.before.before.before.before.before.before.before.requires.1 c.before.before.before.before.before.before.before.before.before.before.before.before.before.before.before.before.before.before.before.before.before.requires.2 c.take-f.ensures.0 c.clear.ensures c.clear-2.ensures c.copy.ensures c.again.ensures c.put.ensures
+    entered c.args.list.now c.type_inv.list _ _ _ _ _ _ _ _ _ c.requires.0 c.requires.1 c.requires.2 c.take-f.ensures.0 c.clear.ensures c.clear-2.ensures c.copy.ensures c.again.ensures c.put.ensures

@@ -2,7 +2,7 @@
 -- Assumes nothing.
 use mathlib.Core.Path.{◌≡◌, ap, ◌∙◌}
 use mathlib.Core.List.{List}
-use Rattle.std.specs.Prelude.{Some}
+use Rattle.std.specs.Prelude.{Some, Option}
 use Prim.Native.Nat.{ℕ, ◌+◌, ◌-◌, ◌*◌, ◌≤◌, ◌<◌}
 use borrow.Rule.Slice.PartMut.{put_mid}
 use lib.ListN.{length, take, drop, replicate}
@@ -11,7 +11,7 @@ use Rattle.leaf_fields.specs.Fields.{to_le}
 use Rattle.leaf_fields.specs.Laws.{length-part}
 use Rattle.messages.specs.declared.Address.{Address}
 use Rattle.messages.specs.declared.Ballot.{Ballot}
-use Rattle.messages.specs.declared.OptionValue.{OptionValue}
+use Rattle.messages.specs.declared.Lent.{Lent}
 use Rattle.messages.specs.Message.{given}
 use Rattle.messages.specs.Answers.{bytes_of}
 use Rattle.proposer_place.specs.declared.front.Front.{Front}
@@ -22,12 +22,12 @@ use Rattle.proposer_place.specs.PlaceRows.{front_promise, promise_added, used_le
 use native.Mathlib.Omega.{arith}
 use Rattle.proposer_place.proofs.rows.note_promise.Goals as goal
 
-small : (b : List ℕ) (f r : Front) (ballot : Ballot) (mark : OptionValue) (n : ℕ) → f ≡ front_of (read_pending b) → length (read_pending b).acks_from < 15 → Small f → r ≡ with_promise f ballot mark n → Small r
+small : (b : List ℕ) (f r : Front) (ballot : Ballot) (mark : Option Lent) (n : ℕ) → f ≡ front_of (read_pending b) → length (read_pending b).acks_from < 15 → Small f → r ≡ with_promise f ballot mark n → Small r
 small b f r ballot mark n e few s er =
     let fits : Small (with_promise f ballot mark n) = record { key = s.key; waited = s.waited; yeses = omega (arith, few_yeses b f e few); noes = s.noes } in
     rw er fits
 
-noted : (b n₁ z n₂ n₃ s v : List ℕ) (f r : Front) (from : Address) (ballot : Ballot) (mark : OptionValue) → Used b → length (read_pending b).acks_from < 15 → length (bytes_of (given mark v)) ≤ 256 → f ≡ front_of (read_pending b) → s ≡ bytes_of (given mark v) → n₁ ≡ sets b (82 + 2 * f.acks_from) (to_le 2 from.0) → z ≡ replicate (length (take (976 - 720) (drop 720 n₁))) 0 → n₂ ≡ sets (put_mid 720 (976 - 720) n₁ z) 720 s → r ≡ with_promise f ballot mark (length s) → n₃ ≡ sets n₂ 0 (front_bytes r) → n₃ ≡ place_image (Some (with_yes (read_pending b) from ballot (given mark v)))
+noted : (b n₁ z n₂ n₃ s v : List ℕ) (f r : Front) (from : Address) (ballot : Ballot) (mark : Option Lent) → Used b → length (read_pending b).acks_from < 15 → length (bytes_of (given mark v)) ≤ 256 → f ≡ front_of (read_pending b) → s ≡ bytes_of (given mark v) → n₁ ≡ sets b (82 + 2 * f.acks_from) (to_le 2 from.0) → z ≡ replicate (length (take (976 - 720) (drop 720 n₁))) 0 → n₂ ≡ sets (put_mid 720 (976 - 720) n₁ z) 720 s → r ≡ with_promise f ballot mark (length s) → n₃ ≡ sets n₂ 0 (front_bytes r) → n₃ ≡ place_image (Some (with_yes (read_pending b) from ballot (given mark v)))
 unfolding front_of
 noted b n₁ z n₂ n₃ s v f r from ballot mark u few short ef es e₁ ez e₂ er e₃ =
     let p = read_pending b in
@@ -45,24 +45,24 @@ noted b n₁ z n₂ n₃ s v f r from ballot mark u few short ef es e₁ ez e₂
     ∙ promise_added p u.lawful from ballot o few short
 
 -- the value fits its row
-fits_row : (s v : List ℕ) (mark : OptionValue) → s ≡ bytes_of (given mark v) → length (bytes_of (given mark v)) ≤ 256 → length s ≤ 256
+fits_row : (s v : List ℕ) (mark : Option Lent) → s ≡ bytes_of (given mark v) → length (bytes_of (given mark v)) ≤ 256 → length s ≤ 256
 fits_row s v mark e short = rw e short
 
 pub take-f-requires : goal.take-f-requires
 take-f-requires c = search used_length
 
-pub put-requires : goal.put-requires
-put-requires c = search room_yes
+pub write-requires : goal.write-requires
+write-requires c = search room_yes
 
 pub slice_bounds-clear-end : goal.slice_bounds-clear-end
-slice_bounds-clear-end c = omega (arith, used_length _ c.before.before.before.before.before.before.before.before.before.before.before.requires.0)
+slice_bounds-clear-end c = omega (arith, used_length _ c.requires.0)
 
 pub copy-requires : goal.copy-requires
-copy-requires c = omega (arith, used_length _ c.before.before.before.before.before.before.before.before.before.before.before.before.before.before.before.before.requires.0, fits_row _ c.before.before.before.before.before.before.before.before.before.before.before.before.before.before.before.before.args.value.now c.before.before.before.before.before.before.before.before.before.before.before.before.before.before.before.before.args.mark c.present-bytes.ensures c.before.before.before.before.before.before.before.before.before.before.before.before.before.before.before.before.requires.2)
+copy-requires c = omega (arith, used_length _ c.requires.0, fits_row _ c.args.value.now c.args.mark c.present-bytes.ensures c.requires.2)
 
-pub put-requires-2 : goal.put-requires-2
-put-requires-2 c = (omega (arith, used_length _ c.before.before.before.before.before.before.before.before.before.before.before.before.before.before.before.before.before.before.before.before.before.requires.0), small _ _ _ _ _ _ c.take-f.ensures.0 c.before.before.before.before.before.before.before.before.before.before.before.before.before.before.before.before.before.before.before.before.before.requires.1 c.take-f.ensures.1 c.promised_by.ensures)
+pub put-requires : goal.put-requires
+put-requires c = (omega (arith, used_length _ c.requires.0), small _ _ _ _ _ _ c.take-f.ensures.0 c.requires.1 c.take-f.ensures.1 c.promised_by.ensures)
 
 pub returns : goal.returns
 returns c =
-    noted _ _ _ _ _ _ _ _ _ _ _ _ c.before.before.before.before.before.before.before.before.before.before.before.before.before.before.before.before.before.before.before.before.before.before.before.before.requires.0 c.before.before.before.before.before.before.before.before.before.before.before.before.before.before.before.before.before.before.before.before.before.before.before.before.requires.1 c.before.before.before.before.before.before.before.before.before.before.before.before.before.before.before.before.before.before.before.before.before.before.before.before.requires.2 c.take-f.ensures.0 c.present-bytes.ensures c.put.ensures c.clear.ensures c.copy.ensures c.promised_by.ensures c.put-2.ensures
+    noted _ _ _ _ _ _ _ _ _ _ _ _ c.requires.0 c.requires.1 c.requires.2 c.take-f.ensures.0 c.present-bytes.ensures c.write.ensures c.clear.ensures c.copy.ensures c.promised_by.ensures c.put.ensures

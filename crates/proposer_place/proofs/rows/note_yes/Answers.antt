@@ -32,11 +32,11 @@ noted b n₁ n₂ f from u few e e₁ e₂ =
 pub take-f-requires : goal.take-f-requires
 take-f-requires c = search used_length
 
-pub put-requires : goal.put-requires
-put-requires c = search room_yes
+pub write-requires : goal.write-requires
+write-requires c = search room_yes
 
-pub put-requires-2 : goal.put-requires-2
-put-requires-2 c = (search room_front, search small depth 9)
+pub put-requires : goal.put-requires
+put-requires c = (search room_front, search small depth 9)
 
 pub returns : goal.returns
-returns c = search noted depth 9
+returns c = noted _ _ _ c.take-f.result c.args.from c.requires.0 c.requires.1 c.take-f.ensures.0 c.write.ensures c.put.ensures

@@ -53,4 +53,4 @@ pub put-requires : goal.put-requires
 put-requires c = (omega (arith, used_length), search small)
 
 pub returns : goal.returns
-returns c = search (entered c.before.before.before.before.before.before.before.before.before.before.before.before.before.before.before.before.before.args.list.now c.type_inv.list) depth 12
+returns c = search (entered c.args.list.now c.type_inv.list) depth 12

@@ -1,40 +1,57 @@
--- `script_answer::answer::put_list` meets its contract: no entry, or the first and those behind it.
+-- `script_answer::answer::put_list` meets its contract: the entries that are left, put behind, give the whole.
 -- Assumes nothing.
-use mathlib.Core.Path.{◌≡◌}
-use mathlib.Core.List.{List, ◌++◌}
-use Prim.Native.Nat.{ℕ, zero, suc, ◌+◌, ◌-◌, ◌≤◌, ◌<◌}
-use lib.ListN.{length}
-use borrow.Author.Tests.{le-leb, lt-leb}
+use Rattle.std.proofs.Common.{◌≡◌, refl, ◌∙◌, List, ℕ, zero, suc, ◌+◌, ◌-◌, ◌≤◌, ◌<◌, length, drop, arith, rules, le-leb}
+use Rattle.std.proofs.lemmas.Bool.{lt-leb}
 use Rattle.leaf_fields.specs.Fields.{from_le, part}
 use Rattle.messages.specs.Answers.{entries_at}
 use Rattle.script_words.specs.Letters.{letters}
-use Rattle.script_words.specs.Written.{Put, decimal}
+use Rattle.script_words.specs.Written.{put, decimal}
 use Rattle.script_words.specs.WrittenLaws.{joined}
 use Rattle.script_answer.specs.Lines.{list_text, entries_text, entries_in}
-use native.Mathlib.Omega.{arith}
+use Rattle.script_answer.proofs.Cut.{entries_behind, entries_turn, entries_end}
 use Rattle.script_answer.proofs.answer.put_list.Goals as goal
+use Rattle.script_answer.proofs.answer.put_list.Goals.{then-n-eq0-via-then-n-eq0, then-n-eq0-via-else-n-eq0+then-area}
 
-none : (out after area : List ℕ) (at r n : ℕ) → n ≡ 0 → Put out at (letters "-") r after → Put out at (list_text (entries_in area entries_at n)) r after
+no_room : (area : List ℕ) (n : ℕ) → length area < entries_at + 2 → list_text (entries_in area entries_at n) ≡ letters "-"
 unfolding entries_in
-none out after area at r n e h = rw e h
+no_room area zero h = refl
+no_room area (suc n) h = rw (lt-leb (entries_at + 2) (length area) h)
 
-short : (out after area : List ℕ) (at r n : ℕ) → length area < entries_at + 2 → Put out at (letters "-") r after → Put out at (list_text (entries_in area entries_at n)) r after
+begun : (n m first : ℕ) (out next area : List ℕ) → (m ≡ 0 → ⊥) → entries_at + 2 ≤ length area → first ≡ from_le (part area entries_at 2) → next ≡ put n out (decimal first) → put n next (entries_text (entries_in (drop (entries_at + 2) area) 0 (m - 1))) ≡ put n out (list_text (entries_in area entries_at m))
 unfolding entries_in
-short out after area at r zero k h = h
-short out after area at r (suc n) k h = rw (lt-leb (entries_at + 2) (length area) k) h
-
-some : (out after area : List ℕ) (at r n x : ℕ) → (n ≡ 0 → ⊥) → entries_at + 2 ≤ length area → x ≡ from_le (part area entries_at 2) → Put out at (decimal x ++ entries_text (entries_in area (entries_at + 2) (n - 1))) r after → Put out at (list_text (entries_in area entries_at n)) r after
-unfolding entries_in
-some out after area at r zero x z k e h = absurd (omega arith)
-some out after area at r (suc n) x z k e h =
-    let p : suc n - 1 ≡ n = omega arith in
-    rw (le-leb (entries_at + 2) (length area) k) (rw (p, e) at h)
+begun n zero first out next area some h f e = absurd (some refl)
+begun n (suc m) first out next area some h f e =
+    let k : suc m - 1 ≡ m = omega arith in
+    rw (le-leb (entries_at + 2) (length area) h, k, entries_behind area (entries_at + 2) 0 m, e, f) (joined n out (decimal (from_le (part area entries_at 2))) (entries_text (entries_in area (entries_at + 2) m)))
 
 pub returns-then-n-eq0 : goal.returns-then-n-eq0
-returns-then-n-eq0 c = search none
+unfolding entries_in
+returns-then-n-eq0 g c =
+    elim c.then-n-eq0.branch [
+      | then-n-eq0-via-then-n-eq0 w ↦ rw w.if-n-eq0.true c.put_byte.ensures
+      | then-n-eq0-via-else-n-eq0+then-area w ↦ rw (no_room c.args.area.now c.args.n w.if-area.true) c.put_byte.ensures
+    ]
 
-pub returns-then-area : goal.returns-then-area
-returns-then-area c = search short
+pub loop-entry-init : goal.loop-entry-init
+loop-entry-init g c =
+    let d = c.into_iter-entry-iterator.ensures.into_iter_gives in
+    let t = c.take-entry-items.ensures in
+    record {
+      size = search rules;
+      left = rw (d, t.source, t.count, c.chunks_exact.ensures.rest, c.rest.ensures) (begun _ _ _ _ _ _ c.if-n-eq0.false c.if-area.false c.read.ensures c.put_number.ensures);
+    }
+
+pub loop-entry-preserved : goal.loop-entry-preserved
+loop-entry-preserved g c =
+    let cut = c.in-Some.ensures.steps in
+    let was = c.loop-entry.invariant in
+    record {
+      size = cut.0.0 ∙ was.size;
+      left = entries_turn _ _ _ _ _ _ _ _ _ cut.0.1.0 (cut.0.1.1 ∙ was.size) cut.1 c.put_entry.ensures was.left;
+    }
 
 pub returns : goal.returns
-returns c = search (some, joined c.put_number-p.ensures c.put_entries.ensures) depth 9
+returns g c =
+    let end = c.in-None.ensures.steps in
+    let was = c.loop-entry.invariant in
+    entries_end _ _ _ _ _ (λ h. rw was.size at (end h).1.0) was.left

@@ -1,50 +1,30 @@
--- `script_answer::answer::put_rows` meets its contract. The loop's invariant: the rows that are left give the final bytes.
+-- `script_answer::answer::put_rows` meets its contract: the rows that are left, put behind, give the whole.
 -- Assumes nothing.
-use mathlib.Core.Path.{◌≡◌, refl}
-use mathlib.Core.List.{List, [], ◌++◌}
-use Prim.Native.Nat.{ℕ, zero, suc, ◌+◌, ◌-◌, ◌≤◌, ◌<◌}
-use lib.ListN.{length}
-use borrow.Author.Tests.{le-leb, lt-leb}
-use Rattle.messages.specs.Answers.{row_bytes}
-use Rattle.script_words.specs.WrittenLaws.{all_left, less_left, none_left}
-use Rattle.script_answer.specs.Lines.{row_text, rows_text, row_in, rows_in}
-use borrow.Author.Rules.{rules}
-use native.Mathlib.Omega.{arith}
+use Rattle.std.proofs.Common.{rules, ◌∙◌}
+use Rattle.messages.specs.Answers.{rows_at}
+use Rattle.script_answer.proofs.Cut.{rows_behind, rows_turn, rows_end}
 use Rattle.script_answer.proofs.answer.put_rows.Goals as goal
 
-turn : (area : List ℕ) (a left : ℕ) → 0 < left → a ≤ length area → row_bytes ≤ length area - a → rows_text (rows_in area a left) ≡ row_text (row_in area a) ++ rows_text (rows_in area (a + row_bytes) (left - 1))
-unfolding rows_text rows_in
-turn area a zero more h k = absurd (omega arith)
-turn area a (suc n) more h k =
-    let e : suc n - 1 ≡ n = omega arith in
-    rw (le-leb (a + row_bytes) (length area) (omega arith), e)
+pub loop-row-init : goal.loop-row-init
+loop-row-init g c =
+    let d = c.into_iter-row-iterator.ensures.into_iter_gives in
+    let t = c.take-row-items.ensures in
+    record {
+      size = search rules;
+      left = rw (d, t.source, t.count, c.chunks_exact.ensures.rest, c.rest.ensures, rows_behind c.args.area.now rows_at 0 c.args.n);
+    }
 
-past : (area : List ℕ) (a left : ℕ) → length area < a → rows_text (rows_in area a left) ≡ []
-unfolding rows_text rows_in
-past area a zero h = refl
-past area a (suc n) h = rw (lt-leb (a + row_bytes) (length area) (omega arith))
-
-full : (area : List ℕ) (a left : ℕ) → a ≤ length area → length area - a < row_bytes → rows_text (rows_in area a left) ≡ []
-unfolding rows_text rows_in
-full area a zero h k = refl
-full area a (suc n) h k = rw (lt-leb (a + row_bytes) (length area) (omega arith))
-
-end : (area : List ℕ) (a left : ℕ) → left ≤ 0 → rows_text (rows_in area a left) ≡ []
-unfolding rows_text rows_in
-end area a zero h = refl
-end area a (suc n) h = absurd (omega arith)
-
-pub loop-left-init : goal.loop-left-init
-loop-left-init c = (search rules, search all_left)
-
-pub returns-then-area-a : goal.returns-then-area-a
-returns-then-area-a c = search (none_left, past) depth 9
-
-pub returns-then-area-a-lt-ROW : goal.returns-then-area-a-lt-ROW
-returns-then-area-a-lt-ROW c = search (none_left, full) depth 9
-
-pub loop-left-preserved : goal.loop-left-preserved
-loop-left-preserved c = (search rules, search (less_left, turn) depth 9)
+pub loop-row-preserved : goal.loop-row-preserved
+loop-row-preserved g c =
+    let cut = c.in-Some.ensures.steps in
+    let was = c.loop-row.invariant in
+    record {
+      size = cut.0.0 ∙ was.size;
+      left = rows_turn _ _ _ _ _ _ _ _ _ cut.0.1.0 (cut.0.1.1 ∙ was.size) cut.1 c.put_row.ensures was.left;
+    }
 
 pub returns : goal.returns
-returns c = search (none_left, end) depth 9
+returns g c =
+    let end = c.in-None.ensures.steps in
+    let was = c.loop-row.invariant in
+    rows_end _ _ _ _ _ (λ h. rw was.size at (end h).1.0) was.left

@@ -1,15 +1,13 @@
--- `script_answer::answer::put_rows` meets its contract. The loop's invariant: the rows that are left give the final bytes.
+-- `script_answer::answer::put_rows` meets its contract. The loop's invariant: the rows that are left, put behind, give the whole.
 -- Assumes nothing.
-use Prim.Native.Nat.{◌≤◌}
-use lib.ListN.{length}
+use Rattle.std.proofs.Common.{◌≡◌}
 use Rattle.messages.specs.Answers.{rows_at}
-use Rattle.script_words.specs.WrittenLaws.{Left}
+use Rattle.script_words.specs.Written.{put}
 use Rattle.script_answer.specs.Lines.{rows_text, rows_in}
 use Rattle.script_answer.proofs.answer.put_rows.Given as goal
 
-abbrev pub invariant-loop-left : goal.invariant-loop-left
-invariant-loop-left l =
-    (l.p ≤ length l.out) × Left l.initial.out l.at (rows_text (rows_in l.area rows_at l.n)) l.out l.p (rows_text (rows_in l.area l.a l.left))
-
-abbrev pub decreases-loop-left : goal.decreases-loop-left
-decreases-loop-left l = l.left
+abbrev pub invariant-loop-row : goal.invariant-loop-row
+invariant-loop-row g l = record {
+  size : l.row-iterator.iter.size ≡ 10;
+  left : put g.row.N l.out (rows_text (rows_in l.row-iterator.iter.rest.now 0 l.row-iterator.n)) ≡ put g.row.N l.initial.out (rows_text (rows_in l.area rows_at l.n));
+}

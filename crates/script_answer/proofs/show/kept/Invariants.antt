@@ -1,14 +1,11 @@
--- `script_answer::show::kept` meets its contract. The loop's invariant: the bytes behind are zeros.
+-- `script_answer::show::kept` meets its contract. The loop's invariant: what is cut off the end were zeros.
 -- Assumes nothing.
-use mathlib.Core.Path.{◌≡◌}
-use mathlib.Core.Bool.{true}
-use Prim.Native.Nat.{◌≤◌}
-use lib.ListN.{length, drop}
-use Rattle.leaf_fields.specs.Fields.{all_zero}
+use Rattle.std.proofs.Common.{◌≡◌, take, length}
+use Rattle.script_answer.specs.Lines.{kept_of}
 use Rattle.script_answer.proofs.show.kept.Given as goal
 
-abbrev pub invariant-loop-n : goal.invariant-loop-n
-invariant-loop-n l = (l.n ≤ length l.s) × (all_zero (drop l.n l.s) ≡ true)
+abbrev pub invariant-loop-s : goal.invariant-loop-s
+invariant-loop-s l = take (kept_of l.s) l.s ≡ take (kept_of l.fn.s) l.fn.s
 
-abbrev pub decreases-loop-n : goal.decreases-loop-n
-decreases-loop-n l = l.n
+abbrev pub decreases-loop-s : goal.decreases-loop-s
+decreases-loop-s l = length l.s

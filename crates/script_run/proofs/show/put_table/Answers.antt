@@ -1,93 +1,74 @@
--- `script_run::show::put_table` meets its contract. The loop's invariant: the lines of the blocks that are left, put behind, give the whole text.
+-- `script_run::show::put_table` meets its contract: the lines of the blocks that are left, put behind, give the whole text.
 -- Assumes nothing.
-use mathlib.Core.Path.{◌≡◌, refl, sym, ap, ◌∙◌}
-use mathlib.Core.Bool.{Bool, true, false}
-use mathlib.Core.List.{List, [], ◌++◌}
-use Prim.Native.Nat.{ℕ, zero, suc, ◌+◌, ◌-◌, ◌≤◌, ◌<◌, min}
-use native.Mathlib.Nat.{sub-zero}
-use native.Mathlib.Numerals.{add-one}
-use native.Mathlib.Omega.{arith}
-use borrow.Author.Tests.{ltb-true, ltb-false, ne_eqb}
-use lib.Dec.{ltb}
-use lib.ListN.{length, take, drop, length-drop, drop_of_length-le}
-use lib.Seq.{drop-drop, take_all}
-use Rattle.script_words.specs.Written.{Put}
-use Rattle.script_words.specs.WrittenLaws.{Left, all_left, less_left, none_left}
+use Rattle.std.proofs.Common.{◌≡◌, refl, ◌∙◌, ap, List, [], ◌∷◌, ◌++◌, ℕ, zero, suc, ◌+◌, ◌-◌, ◌≤◌, ◌<◌, min, length, take, drop, arith, length-append, add-one}
+use Rattle.std.proofs.lemmas.Bool.{ne_eqb}
+use Rattle.std.proofs.lemmas.List.{append-nil, take_all, drop_all}
+use Rattle.std.proofs.Math.Nat.{sub-zero}
+use Rattle.std.proofs.Math.Seq.{take-append_seam, drop-append_seam}
+use Rattle.script_words.specs.Written.{put}
+use Rattle.script_words.specs.WrittenLaws.{less_left, none_left}
 use Rattle.script_answer.specs.Lines.{block_line}
 use Rattle.script_run.specs.Obeyed.{block_lines, table_text}
-use borrow.Author.Rules.{rules}
 use Rattle.script_run.proofs.show.put_table.Goals as goal
 
-begins : (out table : List ℕ) (at : ℕ) → Left out at (table_text table) out at (block_lines (length table - 0) 0 (drop 0 table))
-unfolding table_text
-begins out table at = rw (sub-zero (length table)) all_left
+-- a block, and what is behind it
+front : (b l : List ℕ) → length b ≡ min 512 (length (b ++ l)) → take 512 (b ++ l) ≡ b
+front b [] h = rw (append-nil b) (take_all 512 b (omega (arith, h)))
+front b (x ∷ l) h =
+    let n : length b ≡ 512 = omega (arith, h, length-append b (x ∷ l)) in
+    rw (← n) (take-append_seam b (x ∷ l))
 
--- a block, up to its end
-block : (t : List ℕ) (a e : ℕ) → a < length t → e ≡ min (a + 512) (length t) → take (e - a) (drop a t) ≡ take 512 (drop a t)
-block t a e h ee = by_room (ltb (a + 512) (length t)) refl
-  where
-    by_room : (b : Bool) → ltb (a + 512) (length t) ≡ b → take (e - a) (drop a t) ≡ take 512 (drop a t)
-    by_room true k = let more : a + 512 < length t = ltb-true (a + 512) (length t) k in let n : e - a ≡ 512 = omega arith in rw n
-    by_room false k =
-        let less : length t ≤ a + 512 = ltb-false (a + 512) (length t) k in
-        let n : length (drop a t) ≤ e - a = rw (length-drop a t) (omega arith) in
-        let m : length (drop a t) ≤ 512 = rw (length-drop a t) (omega arith) in
-        take_all (e - a) (drop a t) n ∙ sym (take_all 512 (drop a t) m)
-
-behind_block : (t : List ℕ) (a e : ℕ) → a < length t → e ≡ min (a + 512) (length t) → drop 512 (drop a t) ≡ drop e t
-behind_block t a e h ee = by_room (ltb (a + 512) (length t)) refl
-  where
-    by_room : (b : Bool) → ltb (a + 512) (length t) ≡ b → drop 512 (drop a t) ≡ drop e t
-    by_room true k = let more : a + 512 < length t = ltb-true (a + 512) (length t) k in let n : e ≡ a + 512 = omega arith in rw (drop-drop, n)
-    by_room false k =
-        let less : length t ≤ a + 512 = ltb-false (a + 512) (length t) k in
-        let m : length (drop a t) ≤ 512 = rw (length-drop a t) (omega arith) in
-        let n : length t ≤ e = omega arith in
-        drop_of_length-le (drop a t) m ∙ sym (drop_of_length-le t n)
+behind : (b l : List ℕ) → length b ≡ min 512 (length (b ++ l)) → drop 512 (b ++ l) ≡ l
+behind b [] h = rw (append-nil b) (drop_all 512 b (omega (arith, h)))
+behind b (x ∷ l) h =
+    let n : length b ≡ 512 = omega (arith, h, length-append b (x ∷ l)) in
+    rw (← n) (drop-append_seam b (x ∷ l))
 
 -- one block's line, and the lines of those behind it
 unroll : (m i : ℕ) (t : List ℕ) → (length t ≡ 0 → ⊥) → block_lines (suc m) i t ≡ block_line i (take 512 t) ++ block_lines m (suc i) (drop 512 t)
 unfolding block_lines
 unroll m i t some = rw (ne_eqb (length t) 0 some)
 
-turn : (t : List ℕ) (i a e : ℕ) → i ≤ a → a < length t → e ≡ min (a + 512) (length t) → block_lines (length t - i) i (drop a t) ≡ block_line i (take (e - a) (drop a t)) ++ block_lines (length t - (i + 1)) (i + 1) (drop e t)
-turn t i a e k h ee =
-    let n : length t - i ≡ suc (length t - (i + 1)) = omega arith in
-    let some : length (drop a t) ≡ 0 → ⊥ = rw (length-drop a t) (λ (z : length t - a ≡ 0). absurd (omega (arith, z))) in
-    ap (λ (m : ℕ). block_lines m i (drop a t)) n ∙ unrolled (length t - (i + 1)) some
-  where
-    unrolled : (m : ℕ) → (length (drop a t) ≡ 0 → ⊥) → block_lines (suc m) i (drop a t) ≡ block_line i (take (e - a) (drop a t)) ++ block_lines m (i + 1) (drop e t)
-    unrolled m some = unroll m i (drop a t) some ∙ rw (block t a e h ee, behind_block t a e h ee, add-one i)
+turn : (n all : ℕ) (out next b rest rest' whole : List ℕ) (i j : ℕ) → rest ≡ b ++ rest' → length b ≡ min 512 (length rest) → 0 < length rest → i + length rest ≤ all → j ≡ i + 1 → next ≡ put n out (block_line i b) → put n out (block_lines (all - i) i rest) ≡ whole → put n next (block_lines (all - j) j rest') ≡ whole
+turn n all out next b rest rest' whole i j cut size some room ej more e =
+    let k : all - i ≡ suc (all - j) = omega arith in
+    let s : length b ≡ min 512 (length (b ++ rest')) = rw cut at size in
+    let f : block_lines (all - i) i rest ≡ block_line i b ++ block_lines (all - j) j rest' =
+    rw (k, cut) (unroll (all - j) i (b ++ rest') (λ z. absurd (omega (arith, z, some, ap length cut))) ∙ rw (front b rest' s, behind b rest' s, ej, add-one)) in
+    less_left n out next (block_lines (all - i) i rest) (block_line i b) (block_lines (all - j) j rest') whole more f e
 
--- no block is left
-of_none : (m i : ℕ) → block_lines m i [] ≡ []
+end : (n m i : ℕ) (out rest whole : List ℕ) → length rest ≡ 0 → put n out (block_lines m i rest) ≡ whole → out ≡ whole
 unfolding block_lines
-of_none zero i = refl
-of_none (suc m) i = refl
+end n zero i out rest whole h e = none_left n out [] whole refl e
+end n (suc m) i out [] whole h e = none_left n out [] whole refl e
+end n (suc m) i out (x ∷ l) whole h e = absurd (omega arith)
 
-none : (m i a : ℕ) (t : List ℕ) → length t ≤ a → block_lines m i (drop a t) ≡ []
-none m i a t h = rw (drop_of_length-le t h) (of_none m i)
+begins : (n : ℕ) (out table : List ℕ) → put n out (block_lines (length table - 0) 0 table) ≡ put n out (table_text table)
+unfolding table_text
+begins n out table = rw (sub-zero (length table))
 
-again : (out₀ out next table : List ℕ) (at p q i a e : ℕ) → i ≤ a → a < length table → e ≡ min (a + 512) (length table) → Left out₀ at (table_text table) out p (block_lines (length table - i) i (drop a table)) → Put out p (block_line i (take (e - a) (drop a table))) q next → Left out₀ at (table_text table) next q (block_lines (length table - (i + 1)) (i + 1) (drop e table))
-again out₀ out next table at p q i a e k h ee l f = less_left l f (turn table i a e k h ee)
+pub loop-i-init : goal.loop-i-init
+loop-i-init g c =
+    let d = c.into_iter-i-iterator.ensures.into_iter_gives in
+    let t = c.enumerate-i-items.ensures in
+    let r = c.chunks.ensures in
+    record {
+      size = rw (d, t.source) r.size;
+      enough = rw (d, t.source, t.count, r.rest) (omega arith);
+      left = rw (d, t.source, t.count, r.rest) (begins g.row.N c.args.out.now c.args.table.now);
+    }
 
-whole : (out₀ out table : List ℕ) (at p i a : ℕ) → length table ≤ a → p ≤ length out → Left out₀ at (table_text table) out p (block_lines (length table - i) i (drop a table)) → Put out₀ at (table_text table) p out
-whole out₀ out table at p i a h k l = none_left l (none (length table - i) i a table h) k
-
-within : (out next text : List ℕ) (p q : ℕ) → Put out p text q next → q ≤ length next
-within out next text p q f = f.within
-
-size : (out₀ out whole left : List ℕ) (at p : ℕ) → Left out₀ at whole out p left → length out ≡ length out₀
-size out₀ out whole left at p l = l.size
-
-pub loop-a-init : goal.loop-a-init
-loop-a-init c = (search rules, search rules, search rules, search begins)
-
-pub loop-a-preserved : goal.loop-a-preserved
-loop-a-preserved c = (omega arith, omega arith, search within, search again depth 12)
-
-pub shape_of-out : goal.shape_of-out
-shape_of-out c = search size
+pub loop-i-preserved : goal.loop-i-preserved
+loop-i-preserved g c =
+    let cut = c.in-Some.ensures.steps in
+    let was = c.loop-i.invariant in
+    record {
+      size = cut.0.0 ∙ was.size;
+      enough = omega (arith, was.enough, cut.2, ap length cut.0.1.0, length-append c.in-Some.block.now c.next.new.self.iter.rest.now, cut.0.1.1, cut.0.1.2);
+      left = turn _ _ _ _ _ _ _ _ _ _ cut.0.1.0 (cut.0.1.1 ∙ ap (λ (k : ℕ). min k (length c.loop-i.i-iterator.iter.rest.now)) was.size) cut.0.1.2 was.enough cut.2 (rw cut.1 at c.put_block.ensures) was.left;
+    }
 
 pub returns : goal.returns
-returns c = search whole depth 9
+returns g c =
+    let last = c.in-None.ensures.steps in
+    end _ _ _ _ _ _ last.0.1.0 c.loop-i.invariant.left

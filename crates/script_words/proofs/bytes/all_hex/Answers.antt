@@ -1,33 +1,18 @@
--- `script_words::bytes::all_hex` meets its contract. The loop's invariant: the bytes passed were hex digits, so what is left decides.
+-- `script_words::bytes::all_hex` meets its contract: it is `all` of the bytes.
 -- Assumes nothing.
-use mathlib.Core.Path.{◌≡◌, sym, ap, ◌∙◌}
-use mathlib.Core.Bool.{Bool, true, false}
-use mathlib.Core.List.{List}
-use Prim.Native.Nat.{ℕ, ◌+◌, ◌≤◌, ◌<◌}
-use native.Mathlib.Numerals.{add-one}
-use lib.ListN.{length, get_or, drop, drop_of_length-le}
-use lib.Seq.{drop-cons}
+use Rattle.std.proofs.Common.{rules, tests, ◌≡◌, ◌∙◌, refl, ℕ, ◌&&◌, List}
+use Rattle.std.specs.List.{list_all}
+use Rattle.std.proofs.lemmas.Iterator.{YieldsList-from_slice}
+use Rattle.std.proofs.lemmas.Iterator.Search.{all_from_yields_List}
+use Rattle.std.proofs.lemmas.List.Recursion.{same_from_clauses}
 use Rattle.script_words.specs.Text.{is_hex, all_hex}
-use borrow.Author.Rules.{rules}
 use Rattle.script_words.proofs.bytes.all_hex.Goals as goal
 
-hit : (s : List ℕ) (i : ℕ) (t : Bool) → i < length s → all_hex s ≡ all_hex (drop i s) → t ≡ is_hex (get_or s i 0) → t ≡ false → false ≡ all_hex s
+each : (l : List ℕ) → list_all is_hex l ≡ all_hex l
 unfolding all_hex
-hit s i t more e h f = sym (e ∙ rw (drop-cons s i 0 more, ← h, f))
-
-miss : (s : List ℕ) (i : ℕ) (t : Bool) → i < length s → all_hex s ≡ all_hex (drop i s) → t ≡ is_hex (get_or s i 0) → t ≡ true → all_hex s ≡ all_hex (drop (i + 1) s)
-unfolding all_hex
-miss s i t more e h f = e ∙ rw (drop-cons s i 0 more, ← h, f, add-one)
-
-all : (s : List ℕ) (i : ℕ) → length s ≤ i → all_hex s ≡ all_hex (drop i s) → true ≡ all_hex s
-unfolding all_hex
-all s i past e = sym (e ∙ ap all_hex (drop_of_length-le s past))
-
-pub returns-then-not-is_hex : goal.returns-then-not-is_hex
-returns-then-not-is_hex c = search hit depth 8
-
-pub loop-i-preserved : goal.loop-i-preserved
-loop-i-preserved c = (search rules, search miss depth 8)
+each l = same_from_clauses (list_all is_hex) all_hex (λ x r. is_hex x && r) refl (λ _ _. refl) (λ _ _. refl) l
 
 pub returns : goal.returns
-returns c = search all
+returns c =
+    all_from_yields_List is_hex _ _ _ c.all.ensures.ran (YieldsList-from_slice c.args.s.now cc) (λ x b q k. search (rules, tests))
+    ∙ each c.args.s.now

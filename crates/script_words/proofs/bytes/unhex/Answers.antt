@@ -1,115 +1,120 @@
--- `script_words::bytes::unhex` meets its contract. The loop's invariant: what is left to store gives the final bytes and their number.
+-- `script_words::bytes::unhex` meets its contract: a byte a turn, as many as there are and as fit.
 -- Assumes nothing.
-use mathlib.Core.Path.{◌≡◌, refl, sym, ap, ◌∙◌}
-use mathlib.Core.List.{List, [], ◌∷◌}
-use Prim.Native.Nat.{ℕ, suc, ◌+◌, ◌-◌, ◌*◌, ◌≤◌, ◌<◌}
-use native.Mathlib.Numerals.{add-one}
-use lib.ListN.{length, length-set, length-drop, get_or, drop, set}
-use lib.Seq.{sets, drop-cons}
+use Rattle.std.proofs.Common.{rules, arith, ◌≡◌, refl, sym, ap, ◌∙◌, ℕ, zero, suc, ◌+◌, ◌-◌, ◌*◌, ◌/◌, ◌≤◌, ◌<◌, min, List, [], ◌∷◌, length, length-drop, get_or, take, drop, set, Bool, true, false, ltb, ltb-true, ltb-false}
+use Rattle.std.proofs.Math.Seq.{sets, take-length, length-sets}
+use Rattle.std.proofs.lemmas.List.{take_more, length-take, take-append-drop}
 use borrow.Author.Tests.{lt-ltb, le-ltb}
+use Rattle.leaf_fields.specs.Stores.{sets_join}
 use Rattle.script_words.specs.Text.{hex_value, unhexed, bytes_of}
 use Rattle.script_words.specs.Written.{written, behind}
 use Rattle.script_words.specs.WrittenLaws.{sets_past}
-use borrow.Author.Rules.{rules}
-use native.Mathlib.Omega.{arith}
 use Rattle.script_words.proofs.bytes.unhex.Goals as goal
 
-fits : (w : List ℕ) → length w ≤ 1201 → bytes_of w ≡ unhexed (drop 1 w)
-unfolding bytes_of
-fits w h = rw (le-ltb 1201 (length w) h)
+-- what stands behind the first byte
+abbrev digits : List ℕ → List ℕ
+digits w = take (length w - 1) (drop 1 w)
 
-too_long : (w : List ℕ) → 1201 < length w → bytes_of w ≡ []
-unfolding bytes_of
-too_long w h = rw (lt-ltb 1201 (length w) h)
+-- ---- how many bytes the digits give, and each of them
 
-nothing : (out w : List ℕ) (at : ℕ) → 1201 < length w → out ≡ written out at (bytes_of w)
+half : (n : ℕ) → suc (suc n) / 2 ≡ suc (n / 2)
+half n = omega arith
+
+length-unhexed : (l : List ℕ) → length (unhexed l) ≡ length l / 2
+unfolding unhexed
+length-unhexed [] = refl
+length-unhexed (a ∷ []) = refl
+length-unhexed (a ∷ b ∷ l) = rw half (ap (λ n. suc n) (length-unhexed l))
+
+unhexed_at : (l : List ℕ) (i : ℕ) → i < length l / 2 → get_or (unhexed l) i 0 ≡ hex_value (get_or l (2 * i) 0) * 16 + hex_value (get_or l (2 * i + 1) 0)
+unfolding unhexed
+unhexed_at [] i h = absurd (omega arith)
+unhexed_at (a ∷ []) i h = absurd (omega arith)
+unhexed_at (a ∷ b ∷ l) zero h = refl
+unhexed_at (a ∷ b ∷ l) (suc i) h =
+    let e : 2 * suc i ≡ suc (suc (2 * i)) = omega arith in
+    let k : suc (suc (2 * i)) + 1 ≡ suc (suc (2 * i + 1)) = omega arith in
+    rw (e, k) (unhexed_at l i (omega arith))
+
+-- ---- which bytes a word stands for
+
+fits : (w : List ℕ) → length (digits w) ≤ 1200 → bytes_of w ≡ unhexed (digits w)
+unfolding bytes_of
+fits w h =
+    let n : length w - 1 ≡ length (drop 1 w) = sym (length-drop 1 w) in
+    let d : digits w ≡ drop 1 w = rw (n, take-length (drop 1 w)) refl in
+    let k : length w ≤ 1201 = omega (arith, rw (d, length-drop 1 w) at h) in
+    rw (le-ltb 1201 (length w) k, d) refl
+
+too_long : (w : List ℕ) → 1200 < length (digits w) → bytes_of w ≡ []
+unfolding bytes_of
+too_long w h =
+    let n : length w - 1 ≡ length (drop 1 w) = sym (length-drop 1 w) in
+    let d : digits w ≡ drop 1 w = rw (n, take-length (drop 1 w)) refl in
+    let k : 1201 < length w = omega (arith, rw (d, length-drop 1 w) at h) in
+    rw (lt-ltb 1201 (length w) k) refl
+
+empty : (w : List ℕ) → length w < 1 → bytes_of w ≡ []
+unfolding bytes_of unhexed
+empty [] h = refl
+empty (b ∷ l) h = absurd (omega arith)
+
+-- ---- nothing to store
+
+nothing : (out w : List ℕ) (at : ℕ) → bytes_of w ≡ [] → out ≡ written out at (bytes_of w)
 unfolding written
-nothing out w at h = rw (too_long w h)
+nothing out w at h = rw h
 
-none_behind : (out w : List ℕ) (at : ℕ) → at ≤ length out → 1201 < length w → at ≡ behind out at (length (bytes_of w))
-none_behind out w at l h =
-    let z : length (bytes_of w) ≡ 0 = ap length (too_long w h) in
-    omega arith
-
-begin : (w : List ℕ) (at : ℕ) → length w ≤ 1201 → at + length (unhexed (drop 1 w)) ≡ at + length (bytes_of w)
-begin w at h = rw (fits w h)
-
-begin_bytes : (out w : List ℕ) (at : ℕ) → length w ≤ 1201 → sets out at (unhexed (drop 1 w)) ≡ sets out at (bytes_of w)
-begin_bytes out w at h = rw (fits w h)
-
-short : (l : List ℕ) → length l < 2 → unhexed l ≡ []
-unfolding unhexed
-short [] h = refl
-short (a ∷ []) h = refl
-short (a ∷ b ∷ l) h = absurd (omega arith)
-
--- fewer than two digits are left
-none_left : (w : List ℕ) (at : ℕ) → length w - at < 2 → unhexed (drop at w) ≡ []
-none_left w at h = short (drop at w) (rw (length-drop at w) h)
-
-pair : (w : List ℕ) (at : ℕ) → at + 1 < length w → unhexed (drop at w) ≡ (hex_value (get_or w at 0) * 16 + hex_value (get_or w (at + 1) 0)) ∷ unhexed (drop (at + 2) w)
-unfolding unhexed
-pair w at h =
-    let k : at < length w = omega arith in
-    let k' : suc at < length w = omega arith in
-    let e : at + 2 ≡ suc (suc at) = omega arith in
-    rw (drop-cons w at 0 k, drop-cons w (suc at) 0 k', e, add-one at)
+none_behind : (out w : List ℕ) (at : ℕ) → at ≤ length out → bytes_of w ≡ [] → at ≡ behind out at (length (bytes_of w))
+none_behind out w at l h = rw h (omega arith)
 
 outside : (out w : List ℕ) (at : ℕ) → length out < at → out ≡ written out at (bytes_of w)
 unfolding written
 outside out w at h = sym (sets_past out (bytes_of w) at (omega arith))
 
-ends : (out₀ out w : List ℕ) (at p i : ℕ) → length w < i → sets out p (unhexed (drop i w)) ≡ sets out₀ at (bytes_of w) → out ≡ written out₀ at (bytes_of w)
+-- ---- a turn, and the end
+
+turn : (out₀ out l : List ℕ) (at i a b : ℕ) → out ≡ sets out₀ at (take i (unhexed l)) → i < length l / 2 → a ≡ hex_value (get_or l (2 * i) 0) → b ≡ hex_value (get_or l (2 * i + 1) 0) → set out (at + i) (a * 16 + b) ≡ sets out₀ at (take (i + 1) (unhexed l))
+turn out₀ out l at i a b e h ea eb =
+    let k : i < length (unhexed l) = omega (arith, length-unhexed l) in
+    let n : at + length (take i (unhexed l)) ≡ at + i = omega (arith, length-take i (unhexed l)) in
+    rw (take_more (unhexed l) i 0 k, ← sets_join out₀ (take i (unhexed l)) (get_or (unhexed l) i 0 ∷ []) at (at + i) n, ← e, unhexed_at l i h, ea, eb) refl
+
+-- as many bytes as fit are all that can be stored
+cut : (out vs : List ℕ) (at n : ℕ) → at ≤ length out → n ≡ min (length vs) (length out - at) → sets out at (take n vs) ≡ sets out at vs
+cut out vs at n h e = go (ltb (length vs) (length out - at)) refl
+  where
+    go : (t : Bool) → ltb (length vs) (length out - at) ≡ t → sets out at (take n vs) ≡ sets out at vs
+    go true k =
+        let l : n ≡ length vs = omega (arith, ltb-true _ _ k) in
+        rw (l, take-length vs) refl
+    go false k =
+        let m : at + length (take n vs) ≡ at + n = omega (arith, length-take n vs, ltb-false _ _ k) in
+        let past : length (sets out at (take n vs)) ≤ at + n = omega (arith, length-sets out at (take n vs), ltb-false _ _ k) in
+        sym (sets_past (sets out at (take n vs)) (drop n vs) (at + n) past)
+        ∙ sets_join out (take n vs) (drop n vs) at (at + n) m
+        ∙ ap (sets out at) (take-append-drop n vs)
+
+stored : (out₀ out w : List ℕ) (at n i : ℕ) → at ≤ length out₀ → length (digits w) ≤ 1200 → n ≡ min (length (digits w) / 2) (length out₀ - at) → i ≤ n → n ≤ i → out ≡ sets out₀ at (take i (unhexed (digits w))) → out ≡ written out₀ at (bytes_of w)
 unfolding written
-ends out₀ out w at p i h e = rw (none_left w i (omega arith)) at e
+stored out₀ out w at n i h k e a b f =
+    let j : i ≡ min (length (unhexed (digits w))) (length out₀ - at) = omega (arith, length-unhexed (digits w)) in
+    f ∙ cut out₀ (unhexed (digits w)) at i h j ∙ ap (sets out₀ at) (sym (fits w k))
 
-ends_short : (out₀ out w : List ℕ) (at p i : ℕ) → length w - i < 2 → sets out p (unhexed (drop i w)) ≡ sets out₀ at (bytes_of w) → out ≡ written out₀ at (bytes_of w)
-unfolding written
-ends_short out₀ out w at p i h e = rw (none_left w i h) at e
-
-cut : (out₀ out w : List ℕ) (at p i : ℕ) → length out ≤ p → sets out p (unhexed (drop i w)) ≡ sets out₀ at (bytes_of w) → out ≡ written out₀ at (bytes_of w)
-unfolding written
-cut out₀ out w at p i h e = sym (sets_past out (unhexed (drop i w)) p h) ∙ e
-
-count : (out₀ out w : List ℕ) (at p i : ℕ) → p ≤ length out → length out ≡ length out₀ → length w - i < 2 → p + length (unhexed (drop i w)) ≡ at + length (bytes_of w) → p ≡ behind out₀ at (length (bytes_of w))
-count out₀ out w at p i l e h n =
-    let z : length (unhexed (drop i w)) ≡ 0 = ap length (none_left w i h) in
-    omega arith
-
-count_past : (out₀ out w : List ℕ) (at p i : ℕ) → p ≤ length out → length out ≡ length out₀ → length w < i → p + length (unhexed (drop i w)) ≡ at + length (bytes_of w) → p ≡ behind out₀ at (length (bytes_of w))
-count_past out₀ out w at p i l e h n = count out₀ out w at p i l e (omega arith) n
-
-full : (out₀ out w : List ℕ) (at p i : ℕ) → p ≤ length out → length out ≡ length out₀ → length out ≤ p → p + length (unhexed (drop i w)) ≡ at + length (bytes_of w) → p ≡ behind out₀ at (length (bytes_of w))
-full out₀ out w at p i l e h n = omega arith
-
-counted : (w : List ℕ) (i at n : ℕ) → at ≤ length w → 2 ≤ length w - at → i + length (unhexed (drop at w)) ≡ n → i + 1 + length (unhexed (drop (at + 2) w)) ≡ n
-counted w i at n h k e =
-    let z : length (unhexed (drop at w)) ≡ suc (length (unhexed (drop (at + 2) w))) = ap length (pair w at (omega arith)) in
-    omega arith
-
-turn : (out r w : List ℕ) (i at a b : ℕ) → at ≤ length w → 2 ≤ length w - at → a ≡ hex_value (get_or w at 0) → b ≡ hex_value (get_or w (at + 1) 0) → sets out i (unhexed (drop at w)) ≡ r → sets (set out i (a * 16 + b)) (i + 1) (unhexed (drop (at + 2) w)) ≡ r
-turn out r w i at a b h k ea eb e = rw (ea, eb, add-one i) (rw (pair w at (omega arith)) at e)
+count : (out w : List ℕ) (at n : ℕ) → at ≤ length out → length (digits w) ≤ 1200 → n ≡ min (length (digits w) / 2) (length out - at) → at + n ≡ behind out at (length (bytes_of w))
+count out w at n h k e = rw (fits w k, length-unhexed (digits w)) (omega arith)
 
 pub returns-then-out-at : goal.returns-then-out-at
 returns-then-out-at c = (search rules, omega arith, search outside)
 
-pub returns-then-word : goal.returns-then-word
-returns-then-word c = (search rules, search none_behind, search nothing)
+pub returns-in_default : goal.returns-in_default
+returns-in_default c = (search rules, search (none_behind, empty), search (nothing, empty))
 
-pub loop-p-init : goal.loop-p-init
-loop-p-init c = (search rules, search rules, search begin, search begin_bytes)
+pub returns-then-digits : goal.returns-then-digits
+returns-then-digits c = (search rules, search (none_behind, too_long), search (nothing, too_long))
 
-pub returns-then-word-i : goal.returns-then-word-i
-returns-then-word-i c = (search rules, search count_past, search ends)
-
-pub returns-then-word-i-lt2 : goal.returns-then-word-i-lt2
-returns-then-word-i-lt2 c = (search rules, search count, search ends_short)
-
-pub loop-p-smaller : goal.loop-p-smaller
-loop-p-smaller c = simp length-set (omega arith)
-
-pub loop-p-preserved : goal.loop-p-preserved
-loop-p-preserved c = (simp length-set (omega arith), simp length-set (omega arith), search counted, search turn depth 9)
+pub loop-i-preserved : goal.loop-i-preserved
+loop-i-preserved c =
+    turn _ _ (digits c.args.word.now) _ _ _ _ c.loop-i.invariant (omega arith) c.hex_value.ensures.0 c.hex_value-in-loop-i.ensures.0
 
 pub returns : goal.returns
-returns c = (search rules, search full, search cut)
+returns c = (omega arith, search count, search stored depth 9)

@@ -1,126 +1,120 @@
--- `script_words::list::read_list` meets its contract. The loop's invariant: what is left to store gives the final numbers and how many they are.
+-- `script_words::list::read_list` meets its contract: a number a turn, as many as there are and as fit.
 -- Assumes nothing.
-use mathlib.Core.Path.{◌≡◌, refl, sym, ap, ◌∙◌}
-use mathlib.Core.List.{List, [], ◌∷◌}
-use Prim.Native.Nat.{ℕ, suc, ◌+◌, ◌-◌, ◌≤◌, ◌<◌}
-use native.Mathlib.Numerals.{add-one}
-use lib.ListN.{length, length-set, length-drop, take, drop, set}
-use lib.Seq.{sets, drop-drop}
-use borrow.Author.Tests.{le-leb, lt-leb}
+use Rattle.std.proofs.Common.{rules, tests, arith, ◌≡◌, ◌∙◌, sym, refl, ap, ℕ, suc, ◌+◌, ◌-◌, ◌≤◌, ◌<◌, min, Bool, true, false, ltb, ltb-true, ltb-false, List, [], ◌∷◌, length, length-set, get_or, take, drop, drop-cons, set, add-one, Some, None}
+use Rattle.std.proofs.Math.Seq.{sets}
+use Rattle.std.proofs.Math.ListN.{drop_of_length-le}
+use Rattle.std.proofs.lemmas.List.{get_or_read, get_or-take, length_push, length-take}
+use Rattle.std.proofs.lemmas.Iterator.{YieldsList-from_take}
+use Rattle.std.proofs.lemmas.Iterator.Consumers.{YieldsList-turn, YieldsList-end}
+use Rattle.std.specs.Iterator.Adapters.{take_source, take_count}
 use Rattle.messages.specs.declared.Address.{Address}
-use Rattle.script_words.specs.declared.number.Sender.{Sender}
-use Rattle.script_words.specs.Text.{up_to, address_of, numbers_from, list_of}
+use Rattle.script_words.specs.Text.{address_of, list_of}
 use Rattle.script_words.specs.Written.{behind}
 use Rattle.script_words.specs.WrittenLaws.{sets_past}
-use borrow.Author.Rules.{rules}
-use native.Mathlib.Omega.{arith}
+use Rattle.script_words.proofs.Pieces.{yields_pieces, pieces, numbers, numbers_are, nothing}
 use Rattle.script_words.proofs.list.read_list.Goals as goal
 
--- no entry is next
-stops : (w : List ℕ) (s : Sender) (from n to : ℕ) → n < 32 → to ≡ from + up_to 44 (drop from w) → s ≡ address_of (take (to - from) (drop from w)) → s ≡ Sender.Bad → numbers_from (32 - n) (drop from w) ≡ []
-unfolding numbers_from
-stops w s from n to more p h e =
-    let m : 32 - n ≡ suc (31 - n) = omega arith in
-    let u : to - from ≡ up_to 44 (drop from w) = omega arith in
-    rw (m, ← u, ← h, e)
+all : (w : List ℕ) → numbers 32 (pieces 44 w) ≡ list_of w
+unfolding list_of
+all w = sym (numbers_are 32 w)
 
--- the last entry is next
-last : (w : List ℕ) (s : Sender) (a : Address) (from n to : ℕ) → n < 32 → to ≡ from + up_to 44 (drop from w) → s ≡ address_of (take (to - from) (drop from w)) → s ≡ Sender.Good a → length w ≤ to → numbers_from (32 - n) (drop from w) ≡ a.0 ∷ []
-unfolding numbers_from
-last w s a from n to more p h e past =
-    let m : 32 - n ≡ suc (31 - n) = omega arith in
-    let u : to - from ≡ up_to 44 (drop from w) = omega arith in
-    let l : length (drop from w) ≤ to - from = rw (length-drop from w) (omega arith) in
-    rw (m, ← u, ← h, e, le-leb _ _ l)
+-- ---- the next piece, and what it gives
 
--- an entry is next, and others behind it
-next : (w : List ℕ) (s : Sender) (a : Address) (from n to : ℕ) → n < 32 → to ≡ from + up_to 44 (drop from w) → s ≡ address_of (take (to - from) (drop from w)) → s ≡ Sender.Good a → to < length w → numbers_from (32 - n) (drop from w) ≡ a.0 ∷ numbers_from (32 - (n + 1)) (drop (to + 1) w)
-unfolding numbers_from
-next w s a from n to more p h e within =
+here : (ps : List (List ℕ)) (k n room : ℕ) (w : List ℕ) → (k < length (take room ps)) × (w ≡ get_or (take room ps) k w) → n ≡ k → (n < length ps) × (w ≡ get_or ps n []) × (n < room)
+here ps k n room w t e =
+    let l : length (take room ps) ≡ min room (length ps) = length-take room ps in
+    let r : k < room = omega arith in
+    rw e (omega arith, get_or_read (take room ps) k w t.0 t.1 [] ∙ get_or-take room ps k [] r, r)
+
+one_more : (ps : List (List ℕ)) (n : ℕ) (w : List ℕ) (a : Address) → n < 32 → n < length ps → w ≡ get_or ps n [] → address_of w ≡ Some a → numbers (32 - n) (drop n ps) ≡ a.0 ∷ numbers (32 - (n + 1)) (drop (n + 1) ps)
+unfolding numbers
+one_more ps n w a few h e f =
     let m : 32 - n ≡ suc (31 - n) = omega arith in
     let k : 32 - (n + 1) ≡ 31 - n = omega arith in
-    let u : to - from ≡ up_to 44 (drop from w) = omega arith in
-    let l : to - from < length (drop from w) = rw (length-drop from w) (omega arith) in
-    let q : from + suc (to - from) ≡ to + 1 = omega arith in
-    let d : drop (suc (to - from)) (drop from w) ≡ drop (to + 1) w = drop-drop (suc (to - from)) from w ∙ ap (λ (i : ℕ). drop i w) q in
-    rw (m, k, ← u, ← h, e, lt-leb _ _ l, d)
+    rw (m, k, drop-cons ps n [] h, ← e, f, add-one) refl
 
-begin : (w : List ℕ) → 0 + length (numbers_from 32 w) ≡ length (list_of w)
-unfolding list_of
-begin w = omega arith
+no_more : (ps : List (List ℕ)) (n : ℕ) (w : List ℕ) → n < 32 → n < length ps → w ≡ get_or ps n [] → address_of w ≡ None → numbers (32 - n) (drop n ps) ≡ []
+unfolding numbers
+no_more ps n w few h e f =
+    let m : 32 - n ≡ suc (31 - n) = omega arith in
+    rw (m, drop-cons ps n [] h, ← e, f) refl
 
-begin_numbers : (out w : List ℕ) → sets out 0 (numbers_from 32 w) ≡ sets out 0 (list_of w)
-unfolding list_of
-begin_numbers out w = refl
+-- ---- the end
 
-cut : (out₀ out rest all : List ℕ) (n : ℕ) → n ≤ length out → length out ≡ length out₀ → length out ≤ n → n + length rest ≡ length all → n ≡ behind out₀ 0 (length all)
-cut out₀ out rest all n l e h k = omega arith
+count_none : (out list left : List ℕ) (n : ℕ) → n ≤ length out → left ≡ [] → n + length left ≡ length list → n ≡ behind out 0 (length list)
+count_none out list left n h e k = omega (arith, ap length e)
 
-cut_numbers : (r out rest : List ℕ) (n : ℕ) → length out ≤ n → sets out n rest ≡ r → out ≡ r
-cut_numbers r out rest n h e = sym (sets_past out rest n h) ∙ e
+stored_none : (out r left : List ℕ) (n : ℕ) → left ≡ [] → sets out n left ≡ r → out ≡ r
+stored_none out r left n e h = rw e at h
 
-count_stops : (out₀ out w all : List ℕ) (s : Sender) (from n to : ℕ) → n ≤ length out → length out ≡ length out₀ → n < 32 → to ≡ from + up_to 44 (drop from w) → s ≡ address_of (take (to - from) (drop from w)) → s ≡ Sender.Bad → n + length (numbers_from (32 - n) (drop from w)) ≡ length all → n ≡ behind out₀ 0 (length all)
-count_stops out₀ out w all s from n to l lo more p h e k =
-    let z : length (numbers_from (32 - n) (drop from w)) ≡ 0 = ap length (stops w s from n to more p h e) in
-    omega arith
+count_full : (out list left : List ℕ) (n : ℕ) → n ≡ length out → n + length left ≡ length list → n ≡ behind out 0 (length list)
+count_full out list left n h k = omega arith
 
-stops_numbers : (r out w : List ℕ) (s : Sender) (from n to : ℕ) → n < 32 → to ≡ from + up_to 44 (drop from w) → s ≡ address_of (take (to - from) (drop from w)) → s ≡ Sender.Bad → sets out n (numbers_from (32 - n) (drop from w)) ≡ r → out ≡ r
-stops_numbers r out w s from n to more p h e k = rw (stops w s from n to more p h e) at k
+stored_full : (out r left : List ℕ) (n : ℕ) → length out ≤ n → sets out n left ≡ r → out ≡ r
+stored_full out r left n h e = sym (sets_past out left n h) ∙ e
 
-count_last : (out₀ out w all : List ℕ) (s : Sender) (a : Address) (from n to : ℕ) → n < length out → length out ≡ length out₀ → n < 32 → to ≡ from + up_to 44 (drop from w) → s ≡ address_of (take (to - from) (drop from w)) → s ≡ Sender.Good a → length w ≤ to → n + length (numbers_from (32 - n) (drop from w)) ≡ length all → n + 1 ≡ behind out₀ 0 (length all)
-count_last out₀ out w all s a from n to l lo more p h e past k =
-    let z : length (numbers_from (32 - n) (drop from w)) ≡ 1 = ap length (last w s a from n to more p h e past) in
-    omega arith
+finish : (out₀ out list r : List ℕ) (ps : List (List ℕ)) (n k room : ℕ) → room ≡ min (length out₀) 32 → n ≡ k → k ≡ length (take room ps) → length out ≡ length out₀ → n + length (numbers (32 - n) (drop n ps)) ≡ length list → sets out n (numbers (32 - n) (drop n ps)) ≡ r → (n ≡ behind out₀ 0 (length list)) × (out ≡ r)
+unfolding numbers
+finish out₀ out list r ps n k room m e l size count stored =
+    go (ltb n (length ps)) refl (ltb n 32) refl
+  where
+    at : n ≡ min room (length ps)
+    at = e ∙ l ∙ length-take room ps
 
-last_numbers : (r out w : List ℕ) (s : Sender) (a : Address) (from n to : ℕ) → n < 32 → to ≡ from + up_to 44 (drop from w) → s ≡ address_of (take (to - from) (drop from w)) → s ≡ Sender.Good a → length w ≤ to → sets out n (numbers_from (32 - n) (drop from w)) ≡ r → set out n a.0 ≡ r
-last_numbers r out w s a from n to more p h e past k = rw (last w s a from n to more p h e past) at k
+    empty : numbers (32 - n) (drop n ps) ≡ [] → (n ≡ behind out₀ 0 (length list)) × (out ≡ r)
+    empty h = (count_none out₀ list (numbers (32 - n) (drop n ps)) n (omega (arith, at)) h count, stored_none out r (numbers (32 - n) (drop n ps)) n h stored)
 
-count_next : (w : List ℕ) (s : Sender) (a : Address) (from n to r : ℕ) → n < 32 → to ≡ from + up_to 44 (drop from w) → s ≡ address_of (take (to - from) (drop from w)) → s ≡ Sender.Good a → to < length w → n + length (numbers_from (32 - n) (drop from w)) ≡ r → n + 1 + length (numbers_from (32 - (n + 1)) (drop (to + 1) w)) ≡ r
-count_next w s a from n to r more p h e within k =
-    let z : length (numbers_from (32 - n) (drop from w)) ≡ suc (length (numbers_from (32 - (n + 1)) (drop (to + 1) w))) = ap length (next w s a from n to more p h e within) in
-    omega arith
+    go : (t : Bool) → ltb n (length ps) ≡ t → (u : Bool) → ltb n 32 ≡ u → (n ≡ behind out₀ 0 (length list)) × (out ≡ r)
+    go false h u f = empty (rw (drop_of_length-le ps (ltb-false n (length ps) h)) (nothing (32 - n)))
+    go true h false f =
+        let z : 32 - n ≡ 0 = omega (arith, ltb-false n 32 f) in
+        empty (rw z refl)
+    go true h true f =
+        let full : n ≡ length out₀ = omega (arith, at, ltb-true n (length ps) h, ltb-true n 32 f) in
+        (count_full out₀ list (numbers (32 - n) (drop n ps)) n full count, stored_full out r (numbers (32 - n) (drop n ps)) n (omega arith) stored)
 
-next_numbers : (r out w : List ℕ) (s : Sender) (a : Address) (from n to : ℕ) → n < 32 → to ≡ from + up_to 44 (drop from w) → s ≡ address_of (take (to - from) (drop from w)) → s ≡ Sender.Good a → to < length w → sets out n (numbers_from (32 - n) (drop from w)) ≡ r → sets (set out n a.0) (n + 1) (numbers_from (32 - (n + 1)) (drop (to + 1) w)) ≡ r
-next_numbers r out w s a from n to more p h e within k =
-    ap (λ (i : ℕ). sets (set out n a.0) i (numbers_from (32 - (n + 1)) (drop (to + 1) w))) (add-one n) ∙ (rw (next w s a from n to more p h e within) at k)
+turn_stored : (out r left rest : List ℕ) (n a : ℕ) → left ≡ a ∷ rest → sets out n left ≡ r → sets (set out n a) (n + 1) rest ≡ r
+turn_stored out r left rest n a e h = rw add-one (rw e at h)
 
-count_full : (out₀ out w all : List ℕ) (from n : ℕ) → n ≤ length out → length out ≡ length out₀ → 32 ≤ n → n + length (numbers_from (32 - n) (drop from w)) ≡ length all → n ≡ behind out₀ 0 (length all)
-unfolding numbers_from
-count_full out₀ out w all from n l lo past k =
-    let m : 32 - n ≡ 0 = omega arith in
-    let z : length (numbers_from (32 - n) (drop from w)) ≡ 0 = rw m in
-    omega arith
-
-full_numbers : (r out w : List ℕ) (from n : ℕ) → 32 ≤ n → sets out n (numbers_from (32 - n) (drop from w)) ≡ r → out ≡ r
-unfolding numbers_from
-full_numbers r out w from n past k =
-    let m : 32 - n ≡ 0 = omega arith in
-    rw m at k
-
-pub loop-n-init : goal.loop-n-init
-loop-n-init c = (search rules, search rules, search rules, omega arith, search begin, search begin_numbers)
-
-pub returns-then-out-n : goal.returns-then-out-n
-returns-then-out-n c = (search cut, search cut_numbers)
+pub loop-entry-init : goal.loop-entry-init
+loop-entry-init c =
+    record {
+      size = refl;
+      most = omega arith;
+      turns = refl;
+      count = omega (arith, ap length (all c.args.word.now));
+      stored = ap (sets c.args.out.now 0) (all c.args.word.now);
+    }
 
 pub returns-in_default : goal.returns-in_default
-returns-in_default c = (search count_stops depth 9, search stops_numbers depth 9)
+returns-in_default c =
+    let e = c.into_iter-entry-iterator.ensures.into_iter_gives in
+    let f = ap take_source e ∙ c.take-entry-items.ensures.source in
+    let t = YieldsList-turn (YieldsList-from_take c.min-room.result (yields_pieces _ 44 c.args.word.now f c.split.ensures.rest c.split.ensures.done c.split.ensures.closure (λ x b q k. search (rules, tests))) (ap take_count e ∙ c.take-entry-items.ensures.count)) c.loop-entry.yielded _ c.loop-entry.yielded_by _ _ c.in-Some.entry c.in-Some.is c.next.ensures.steps in
+    let h = here _ _ _ _ _ t c.loop-entry.invariant.turns in
+    let few : c.loop-entry.n < 32 = omega (arith, c.min-room.ensures) in
+    let left = no_more _ _ _ few h.0 h.1 (sym c.in_default.ensures) in
+    (count_none c.args.out.now _ _ _ (omega (arith, c.min-room.ensures)) left c.loop-entry.invariant.count, stored_none _ _ _ _ left c.loop-entry.invariant.stored)
 
-pub shape_of-out-then-word-to : goal.shape_of-out-then-word-to
-shape_of-out-then-word-to c = simp length-set (omega arith)
-
-pub returns-then-word-to : goal.returns-then-word-to
-returns-then-word-to c = (search count_last depth 9, search last_numbers depth 9)
-
-pub loop-n-preserved : goal.loop-n-preserved
-loop-n-preserved c = (
-  search rules,
-  simp length-set (omega arith),
-  simp length-set (omega arith),
-  omega arith,
-  count_next _ _ _ _ _ _ _ c.loop-n-test.true c.place_of-to.ensures.0 c.read_address.ensures c.in-Good.is c.if-word-to.false c.loop-n.invariant.4,
-  next_numbers _ _ _ _ _ _ _ _ c.loop-n-test.true c.place_of-to.ensures.0 c.read_address.ensures c.in-Good.is c.if-word-to.false c.loop-n.invariant.5,
-)
+pub loop-entry-preserved : goal.loop-entry-preserved
+loop-entry-preserved c =
+    let e = c.into_iter-entry-iterator.ensures.into_iter_gives in
+    let f = ap take_source e ∙ c.take-entry-items.ensures.source in
+    let t = YieldsList-turn (YieldsList-from_take c.min-room.result (yields_pieces _ 44 c.args.word.now f c.split.ensures.rest c.split.ensures.done c.split.ensures.closure (λ x b q k. search (rules, tests))) (ap take_count e ∙ c.take-entry-items.ensures.count)) c.loop-entry.yielded _ c.loop-entry.yielded_by _ _ c.in-Some.entry c.in-Some.is c.next.ensures.steps in
+    let h = here _ _ _ _ _ t c.loop-entry.invariant.turns in
+    let few : c.loop-entry.n < 32 = omega (arith, c.min-room.ensures) in
+    let left = one_more _ _ _ _ few h.0 h.1 (sym c.in-Some-read_address.ensures) in
+    record {
+      size = simp length-set c.loop-entry.invariant.size;
+      most = omega arith;
+      turns = omega (arith, length_push c.loop-entry.yielded c.in-Some.entry);
+      count = omega (arith, ap length left, c.loop-entry.invariant.count);
+      stored = turn_stored _ _ _ _ _ _ left c.loop-entry.invariant.stored;
+    }
 
 pub returns : goal.returns
-returns c = (search count_full depth 9, search full_numbers)
+returns c =
+    let e = c.into_iter-entry-iterator.ensures.into_iter_gives in
+    let f = ap take_source e ∙ c.take-entry-items.ensures.source in
+    let t = YieldsList-end (YieldsList-from_take c.min-room.result (yields_pieces _ 44 c.args.word.now f c.split.ensures.rest c.split.ensures.done c.split.ensures.closure (λ x b q k. search (rules, tests))) (ap take_count e ∙ c.take-entry-items.ensures.count)) c.loop-entry.yielded _ c.loop-entry.yielded_by _ _ c.in-None.is c.next.ensures.steps in
+    finish _ _ _ _ _ _ _ _ c.min-room.ensures c.loop-entry.invariant.turns t.1 c.loop-entry.invariant.size c.loop-entry.invariant.count c.loop-entry.invariant.stored

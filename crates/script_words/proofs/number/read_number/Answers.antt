@@ -1,69 +1,62 @@
--- `script_words::number::read_number` meets its contract. The loop's invariant: the number so far, followed by the digits that are left, is the word's.
+-- `script_words::number::read_number` meets its contract: each exit by what was read so far.
 -- Assumes nothing.
-use mathlib.Core.Path.{◌≡◌, refl}
-use mathlib.Core.List.{List, [], ◌∷◌}
-use Prim.Native.Nat.{ℕ, ◌+◌, ◌-◌, ◌*◌, ◌/◌, ◌^◌, ◌≤◌, ◌<◌}
-use native.Mathlib.Numerals.{add-one}
-use lib.ListN.{length, get_or, drop, drop_of_length-le}
-use lib.Seq.{drop-cons}
-use borrow.Author.Tests.{le-leb, lt-leb, lt-ltb, le-ltb}
-use Rattle.script_words.specs.declared.number.Number.{Number}
-use Rattle.script_words.specs.Text.{digits_from, number_of}
-use borrow.Author.Rules.{rules}
-use native.Mathlib.Omega.{arith}
+use Rattle.std.proofs.Common.{rules, arith, ◌≡◌, refl, sym, ◌∙◌, ap, ℕ, ◌+◌, ◌-◌, ◌*◌, ◌^◌, ◌≤◌, ◌<◌, Bool, true, false, cond, lt-ltb, le-ltb, List, [], ◌∷◌, length, get_or, drop, drop-cons, drop_of_length-le, add-one, Option, Some, None}
+use Rattle.script_words.specs.Text.{is_digit, digits_from, number_of}
 use Rattle.script_words.proofs.number.read_number.Goals as goal
 
-empty : (w : List ℕ) → length w ≡ 0 → Number.Bad ≡ number_of w
+empty : (w : List ℕ) → length w ≡ 0 → None ≡ number_of w
 unfolding number_of
 empty [] h = refl
 empty (b ∷ l) h = absurd (omega arith)
 
-whole : (w : List ℕ) → (length w ≡ 0 → ⊥) → digits_from 0 w ≡ number_of w
+begin : (w : List ℕ) → (length w ≡ 0 → ⊥) → number_of w ≡ digits_from 0 w
 unfolding number_of
-whole [] h = absurd (h refl)
-whole (b ∷ l) h = refl
+begin [] h = absurd (h refl)
+begin (b ∷ l) h = refl
 
-below : (w : List ℕ) (x i : ℕ) (r : Number) → i < length w → get_or w i 0 < 48 → digits_from x (drop i w) ≡ r → Number.Bad ≡ r
+module _ (w : List ℕ) (x i : ℕ) (more : i < length w) (so_far : number_of w ≡ digits_from x (drop i w)) where
+  other : (t : Bool) → t ≡ is_digit (get_or w i 0) → t ≡ false → None ≡ number_of w
+  unfolding digits_from
+  other t e f = sym (so_far ∙ rw (drop-cons w i 0, ← e, f))
+
+  wraps : (2 ^ 64 ≤ x * 10 + (get_or w i 0 - 48)) → None ≡ number_of w
+  unfolding digits_from
+  wraps h = sym (so_far ∙ rw (drop-cons w i 0, le-ltb _ _ h) (either (is_digit (get_or w i 0))))
+    where
+      either : (t : Bool) → cond {A = Option ℕ} t None None ≡ None
+      either true = refl
+      either false = refl
+
+  next : (t : Bool) (y : ℕ) → t ≡ is_digit (get_or w i 0) → t ≡ true → y ≡ x * 10 + (get_or w i 0 - 48) → y < 2 ^ 64 → number_of w ≡ digits_from y (drop (i + 1) w)
+  unfolding digits_from
+  next t y e f g h = so_far ∙ rw (drop-cons w i 0, ← e, f, ← g, lt-ltb _ _ h, add-one) refl
+
+end : (w : List ℕ) (x i : ℕ) → length w ≤ i → number_of w ≡ digits_from x (drop i w) → Some x ≡ number_of w
 unfolding digits_from
-below w x i r more h e = rw (drop-cons w i 0 more, lt-leb 48 (get_or w i 0) h) at e
+end w x i past e = sym (e ∙ ap (digits_from x) (drop_of_length-le w past))
 
-above : (w : List ℕ) (x i : ℕ) (r : Number) → i < length w → 48 ≤ get_or w i 0 → 57 < get_or w i 0 → digits_from x (drop i w) ≡ r → Number.Bad ≡ r
-unfolding digits_from
-above w x i r more h k e = rw (drop-cons w i 0 more, le-leb 48 (get_or w i 0) h, lt-leb (get_or w i 0) 57 k) at e
+pub returns-then-is_empty : goal.returns-then-is_empty
+returns-then-is_empty c = search (rules, empty)
 
-large : (w : List ℕ) (x i : ℕ) (r : Number) → i < length w → 48 ≤ get_or w i 0 → get_or w i 0 ≤ 57 → (18446744073709551615 - (get_or w i 0 - 48)) / 10 < x → digits_from x (drop i w) ≡ r → Number.Bad ≡ r
-unfolding digits_from
-large w x i r more h k over e =
-    let f : 2 ^ 64 ≤ x * 10 + (get_or w i 0 - 48) = omega arith in
-    rw (drop-cons w i 0 more, le-leb 48 (get_or w i 0) h, le-leb (get_or w i 0) 57 k, le-ltb (x * 10 + (get_or w i 0 - 48)) (2 ^ 64) f) at e
+pub loop-b-init : goal.loop-b-init
+loop-b-init c = search (rules, begin)
 
-turn : (w : List ℕ) (x i : ℕ) (r : Number) → i < length w → 48 ≤ get_or w i 0 → get_or w i 0 ≤ 57 → x ≤ (18446744073709551615 - (get_or w i 0 - 48)) / 10 → digits_from x (drop i w) ≡ r → digits_from (x * 10 + (get_or w i 0 - 48)) (drop (i + 1) w) ≡ r
-unfolding digits_from
-turn w x i r more h k under e =
-    let f : x * 10 + (get_or w i 0 - 48) < 2 ^ 64 = omega arith in
-    rw add-one (rw (drop-cons w i 0 more, le-leb 48 (get_or w i 0) h, le-leb (get_or w i 0) 57 k, lt-ltb (x * 10 + (get_or w i 0 - 48)) (2 ^ 64) f) at e)
+pub returns-then-not-is_ascii_digit : goal.returns-then-not-is_ascii_digit
+returns-then-not-is_ascii_digit c =
+    other _ _ _ c.loop-b-test.true c.loop-b.invariant _ c.is_ascii_digit.ensures.value c.if-not-is_ascii_digit.true
 
-all : (w : List ℕ) (x i : ℕ) (r : Number) → length w ≤ i → digits_from x (drop i w) ≡ r → Number.Good x ≡ r
-unfolding digits_from
-all w x i r past e = rw (drop_of_length-le w past) at e
+pub returns-in_err-checked_mul : goal.returns-in_err-checked_mul
+returns-in_err-checked_mul c =
+    c.from_residual.ensures ∙ wraps _ _ _ c.loop-b-test.true c.loop-b.invariant (omega (arith, c.in_err-checked_mul.ensures))
 
-pub returns-then-word-eq0 : goal.returns-then-word-eq0
-returns-then-word-eq0 c = search empty
+pub returns-in_err-x : goal.returns-in_err-x
+returns-in_err-x c =
+    c.from_residual-in_err-x.ensures
+    ∙ wraps _ _ _ c.loop-b-test.true c.loop-b.invariant (omega (arith, c.in_err-x.ensures, c.in_ok-checked_mul.ensures, c.from.ensures))
 
-pub loop-i-init : goal.loop-i-init
-loop-i-init c = (search rules, search whole)
-
-pub returns-then-b-lt48 : goal.returns-then-b-lt48
-returns-then-b-lt48 c = search below
-
-pub returns-then-b-gt57 : goal.returns-then-b-gt57
-returns-then-b-gt57 c = search above
-
-pub returns-then-d-x : goal.returns-then-d-x
-returns-then-d-x c = search large
-
-pub loop-i-preserved : goal.loop-i-preserved
-loop-i-preserved c = (search rules, search turn)
+pub loop-b-preserved : goal.loop-b-preserved
+loop-b-preserved c =
+    next _ _ _ c.loop-b-test.true c.loop-b.invariant _ _ c.is_ascii_digit.ensures.value c.if-not-is_ascii_digit.false (omega (arith, c.in_ok-x.ensures, c.in_ok-checked_mul.ensures, c.from.ensures)) (omega (arith, c.in_ok-x.ensures))
 
 pub returns : goal.returns
-returns c = search all
+returns c = search end

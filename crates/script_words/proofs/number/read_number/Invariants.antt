@@ -1,13 +1,8 @@
--- `script_words::number::read_number` meets its contract. The loop's invariant: the number so far, followed by the digits that are left, is the word's.
+-- `script_words::number::read_number` meets its contract. The loop's invariant: the digits passed are x, so what is left decides.
 -- Assumes nothing.
-use mathlib.Core.Path.{◌≡◌}
-use Prim.Native.Nat.{◌-◌, ◌≤◌}
-use lib.ListN.{length, drop}
+use Rattle.std.proofs.Common.{◌≡◌, drop}
 use Rattle.script_words.specs.Text.{digits_from, number_of}
 use Rattle.script_words.proofs.number.read_number.Given as goal
 
-abbrev pub invariant-loop-i : goal.invariant-loop-i
-invariant-loop-i l = (l.i ≤ length l.word) × (digits_from l.x (drop l.i l.word) ≡ number_of l.word)
-
-abbrev pub decreases-loop-i : goal.decreases-loop-i
-decreases-loop-i l = length l.word - l.i
+abbrev pub invariant-loop-b : goal.invariant-loop-b
+invariant-loop-b l = number_of l.word ≡ digits_from l.x (drop l.b-index l.word)

@@ -1,40 +1,45 @@
--- `script_words::words::place_of` meets its contract. The loop's invariant: the bytes passed were others, so what is left decides.
+-- `script_words::words::place_of` meets its contract: the place that `position` finds is how far the byte is.
 -- Assumes nothing.
-use mathlib.Core.Path.{◌≡◌, ap}
-use mathlib.Core.List.{List}
-use Prim.Native.Nat.{ℕ, suc, ◌+◌, ◌≤◌, ◌<◌}
-use native.Mathlib.Numerals.{add-one}
-use lib.ListN.{length, get_or, drop, drop_of_length-le}
-use lib.Seq.{drop-cons}
-use borrow.Author.Tests.{eq-eqb, ne_eqb}
+use Rattle.std.proofs.Common.{rules, tests, arith, ◌≡◌, ℕ, ◌≤◌, Bool, true, false, cond, eqb, ltb, List, length, length-drop, take, drop, ◌-◌, refl, sym, ◌∙◌, ltb-false, Option, Some, None}
+use Rattle.std.proofs.Math.Seq.{take-length}
+use Rattle.std.specs.List.{position_or_len}
+use Rattle.std.proofs.lemmas.Iterator.{YieldsList-from_slice}
+use Rattle.std.proofs.lemmas.Iterator.Search.{position_from_yields_List}
 use Rattle.script_words.specs.Text.{up_to}
-use borrow.Author.Rules.{rules}
-use native.Mathlib.Omega.{arith}
+use Rattle.script_words.proofs.Pieces.{place_is, up_to_most}
 use Rattle.script_words.proofs.words.place_of.Goals as goal
 
-hit : (s : List ℕ) (b i r : ℕ) → i < length s → get_or s i 0 ≡ b → i + up_to b (drop i s) ≡ r → i ≡ r
-unfolding up_to
-hit s b i r more e h =
-    let z : up_to b (drop i s) ≡ 0 = rw (drop-cons s i 0 more, eq-eqb _ _ e) in
-    omega arith
+-- what `position` answers, in the words of `up_to`
+found : (b : ℕ) (l : List ℕ) (r : Option ℕ) → r ≡ cond (ltb (position_or_len (λ x. eqb x b) l) (length l)) (Some (position_or_len (λ x. eqb x b) l)) None → r ≡ cond (ltb (up_to b l) (length l)) (Some (up_to b l)) None
+found b l r e = rw (place_is b l) e
 
-miss : (s : List ℕ) (b i r : ℕ) → i < length s → (get_or s i 0 ≡ b → ⊥) → i + up_to b (drop i s) ≡ r → i + 1 + up_to b (drop (i + 1) s) ≡ r
-unfolding up_to
-miss s b i r more ne h =
-    let z : up_to b (drop i s) ≡ suc (up_to b (drop (i + 1) s)) = rw (drop-cons s i 0 more, ne_eqb _ _ ne, add-one) in
-    omega arith
+some : (b i : ℕ) (l : List ℕ) → Some i ≡ cond (ltb (up_to b l) (length l)) (Some (up_to b l)) None → i ≡ up_to b l
+some b i l = go (ltb (up_to b l) (length l))
+  where
+    go : (t : Bool) → Some i ≡ cond t (Some (up_to b l)) None → i ≡ up_to b l
+    go true e = cc
+    go false e = absurd (cc)
 
-none : (s : List ℕ) (b i r : ℕ) → length s ≤ i → i + up_to b (drop i s) ≡ r → i ≡ r
-unfolding up_to
-none s b i r past h =
-    let z : up_to b (drop i s) ≡ 0 = ap (up_to b) (drop_of_length-le s past) in
-    omega arith
+none : (b : ℕ) (l : List ℕ) → None ≡ cond (ltb (up_to b l) (length l)) (Some (up_to b l)) None → length l ≡ up_to b l
+none b l = go (ltb (up_to b l) (length l)) refl
+  where
+    go : (t : Bool) → ltb (up_to b l) (length l) ≡ t → None ≡ cond t (Some (up_to b l)) None → length l ≡ up_to b l
+    go true h e = absurd (cc)
+    go false h e = omega (arith, ltb-false _ _ h, up_to_most b l)
 
-pub returns-then-s-i : goal.returns-then-s-i
-returns-then-s-i c = (search hit, search rules, search rules)
+rest : (s : List ℕ) (from : ℕ) → from ≤ length s → take (length s - from) (drop from s) ≡ drop from s
+rest s from h = rw (← length-drop from s, take-length (drop from s)) refl
 
-pub loop-i-preserved : goal.loop-i-preserved
-loop-i-preserved c = (search rules, search rules, search miss)
+pub returns-in-Some : goal.returns-in-Some
+returns-in-Some c =
+    let l = drop c.args.from c.args.s.now in
+    let e = position_from_yields_List (λ x. eqb x c.args.b) _ _ _ c.position.ensures.ran (YieldsList-from_slice l (c.iter.ensures.rest ∙ rest c.args.s.now c.args.from (omega arith))) (λ x b q k. search (rules, tests)) in
+    let p : c.in-Some.i ≡ up_to c.args.b l = some _ _ l (sym c.in-Some.is ∙ found _ _ _ e) in
+    (rw p refl, omega arith, omega (arith, up_to_most c.args.b l, length-drop c.args.from c.args.s.now))
 
-pub returns : goal.returns
-returns c = (search none, search rules, search rules)
+pub returns-in-None : goal.returns-in-None
+returns-in-None c =
+    let l = drop c.args.from c.args.s.now in
+    let e = position_from_yields_List (λ x. eqb x c.args.b) _ _ _ c.position.ensures.ran (YieldsList-from_slice l (c.iter.ensures.rest ∙ rest c.args.s.now c.args.from (omega arith))) (λ x b q k. search (rules, tests)) in
+    let p : length l ≡ up_to c.args.b l = none _ l (sym c.in-None.is ∙ found _ _ _ e) in
+    (omega (arith, length-drop c.args.from c.args.s.now), omega arith, omega arith)

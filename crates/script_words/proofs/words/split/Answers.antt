@@ -1,168 +1,151 @@
--- `script_words::words::split` meets its contract. The loop's invariant: the words passed and what is left give the line's words, and the places of later words are 0.
+-- `script_words::words::split` meets its contract: the pieces between the spaces, where none is empty and there are eight at most.
 -- Assumes nothing.
-use mathlib.Core.Bool.{Bool, true, false, cond}
-use mathlib.Core.Path.{◌≡◌, refl, sym, ap, ◌∙◌}
-use mathlib.Core.List.{List, [], ◌∷◌, ◌++◌}
-use Prim.Native.Nat.{ℕ, zero, suc, ◌+◌, ◌-◌, ◌≤◌, ◌<◌}
-use native.Mathlib.Nat.{le_refl}
-use native.Mathlib.Numerals.{add-one}
+use Rattle.std.proofs.Common.{rules, tests, arith, ◌≡◌, refl, sym, ◌∙◌, ℕ, zero, suc, ◌+◌, ◌≤◌, ◌<◌, Bool, true, false, not, ◌&&◌, cond, eqb, ltb, leb, ltb-true, ltb-false, le-leb, leb-true, leb-false, Bor, List, [], ◌∷◌, ◌++◌, append_assoc, length, get_or, set, map, take, drop, get_or-set_same, get_or-set_other, replicate, length-set, inl, inr}
 use native.Mathlib.Decide.{ℕ_discrete}
-use lib.Dec.{ltb, leb}
-use lib.ListN.{length, get_or, take, drop, set, replicate, length-set, length-drop, length-append, get_or-append, get_or-eq_default}
-use lib.Seq.{drop-drop, get_or_at, get_or-set_same, get_or-set_other}
-use borrow.Author.Tests.{le-ltb, le-leb, lt-leb, ne_eqb, ltb-true, ltb-false}
+use Rattle.std.proofs.Math.Dec.{leb-suc-suc}
+use Rattle.std.proofs.Math.ListN.{get_or-eq_default}
+use Rattle.std.proofs.Math.Seq.{take-length}
+use Rattle.std.proofs.lemmas.Bool.{lt-leb}
+use Rattle.std.proofs.lemmas.List.{get_or_read, length-map, length_push, length-take, length-take-le, take_more, get_or-take, map-set}
+use Rattle.std.proofs.lemmas.List.Folds.{list_all-append}
+use Rattle.std.proofs.lemmas.List.Recursion.{and_fails_at}
+use Rattle.std.proofs.lemmas.List.Splits.{length-slice_split}
+use Rattle.std.proofs.lemmas.Iterator.Consumers.{YieldsList-turn, YieldsList-end}
+use Rattle.std.specs.List.{list_all}
 use Rattle.script_words.specs.Text.{up_to}
-use Rattle.script_words.specs.Split.{nth, words_behind, words_of, between, word_at, no_words, Split}
+use Rattle.script_words.specs.Split.{nth, words_behind, words_of, word_at, Split}
 use Rattle.script_words.specs.declared.words.Words.{Words}
-use borrow.Author.Rules.{rules}
-use native.Mathlib.Omega.{arith}
-use Rattle.script_words.proofs.words.split.Invariants.{passed, Free}
+use Rattle.script_words.proofs.Pieces.{pieces, yields_pieces, one_piece, first_piece, up_to_most}
+use Rattle.script_words.proofs.words.split.Invariants.{full}
 use Rattle.script_words.proofs.words.split.Goals as goal
 
-length_passed : (line from to : List ℕ) (n : ℕ) → length (passed line from to n) ≡ n
-unfolding passed
-length_passed line from to zero = refl
-length_passed line from to (suc n) =
-    length-append (passed line from to n) (between line (get_or from n 0) (get_or to n 0) ∷ []) ∙ ap (λ (k : ℕ). k + 1) (length_passed line from to n) ∙ add-one n
+-- ---- the words are the pieces, where they are no more than n and none is empty
 
-nth_passed : (line from to : List ℕ) (n i : ℕ) → i < n → nth (passed line from to n) i ≡ between line (get_or from i 0) (get_or to i 0)
-unfolding passed
-nth_passed line from to zero i h = absurd (omega arith)
-nth_passed line from to (suc n) i h =
-    let before : List (List ℕ) = passed line from to n in
-    let last : List ℕ = between line (get_or from n 0) (get_or to n 0) in
-    elim (ℕ_discrete i n) [
-      | yes e ↦ rw e (get_or_at before last [] [] n (length_passed line from to n))
-      | no ne ↦
-          get_or-append before (last ∷ []) [] i (omega (arith, length_passed line from to n))
-          ∙ nth_passed line from to n i (omega arith)
-    ]
-
-passed_set : (line from to : List ℕ) (n a e m : ℕ) → m ≤ n → passed line (set from n a) (set to n e) m ≡ passed line from to m
-unfolding passed
-passed_set line from to n a e zero h = refl
-passed_set line from to n a e (suc m) h =
-    let other : m ≡ n → ⊥ = λ q. omega arith in
-    rw (passed_set line from to n a e m (omega arith), get_or-set_other from n m a 0 other, get_or-set_other to n m e 0 other)
-
--- one word more
-more : (line from to : List ℕ) (n start end : ℕ) → n < 8 → length from ≡ 8 → length to ≡ 8 → start ≤ end → end ≤ length line → end ≡ start + up_to 32 (drop start line) → passed line (set from n start) (set to n end) (n + 1) ≡ passed line from to n ++ (take (up_to 32 (drop start line)) (drop start line) ∷ [])
-unfolding passed between
-more line from to n start end room lf lt order within at =
-    let u : end - start ≡ up_to 32 (drop start line) = omega arith in
-    let hf : n < length from = omega arith in
-    let ht : n < length to = omega arith in
-    rw (
-      add-one n,
-      passed_set line from to n start end n (le_refl n),
-      get_or-set_same from n start 0 hf,
-      get_or-set_same to n end 0 ht,
-      le-ltb end start order,
-      le-ltb (length line) end within,
-      u,
-    )
-
-empty : (line : List ℕ) (ws : List (List ℕ)) (n start end : ℕ) → n < 8 → end ≡ start + up_to 32 (drop start line) → end ≡ start → words_of line ≡ words_behind (8 - n) ws (drop start line) → words_of line ≡ []
-unfolding words_behind
-empty line ws n start end room at e w =
-    let m : 8 - n ≡ suc (7 - n) = omega arith in
-    let z : up_to 32 (drop start line) ≡ 0 = omega arith in
-    w ∙ rw (m, z)
-
-full : (line : List ℕ) (ws : List (List ℕ)) (n start : ℕ) → 8 ≤ n → words_of line ≡ words_behind (8 - n) ws (drop start line) → words_of line ≡ []
-unfolding words_behind
-full line ws n start past w =
-    let m : 8 - n ≡ 0 = omega arith in
-    w ∙ rw m
-
-last : (line : List ℕ) (ws vs : List (List ℕ)) (n start end : ℕ) → n < 8 → start ≤ end → end ≡ start + up_to 32 (drop start line) → (end ≡ start → ⊥) → length line ≤ end → vs ≡ ws ++ (take (up_to 32 (drop start line)) (drop start line) ∷ []) → words_of line ≡ words_behind (8 - n) ws (drop start line) → words_of line ≡ vs
-unfolding words_behind
-last line ws vs n start end room order at ne past e w =
-    let m : 8 - n ≡ suc (7 - n) = omega arith in
-    let nonempty : up_to 32 (drop start line) ≡ 0 → ⊥ = λ z. ne (omega arith) in
-    let l : length (drop start line) ≤ up_to 32 (drop start line) = rw (length-drop start line) (omega arith) in
-    w ∙ rw (m, ne_eqb _ _ nonempty, le-leb _ _ l, e)
-
-next : (line : List ℕ) (ws vs : List (List ℕ)) (n start end : ℕ) → n < 8 → start ≤ end → end ≡ start + up_to 32 (drop start line) → (end ≡ start → ⊥) → end < length line → vs ≡ ws ++ (take (up_to 32 (drop start line)) (drop start line) ∷ []) → words_of line ≡ words_behind (8 - n) ws (drop start line) → words_of line ≡ words_behind (8 - (n + 1)) vs (drop (end + 1) line)
-unfolding words_behind
-next line ws vs n start end room order at ne within e w =
-    let m : 8 - n ≡ suc (7 - n) = omega arith in
-    let k : 8 - (n + 1) ≡ 7 - n = omega arith in
-    let nonempty : up_to 32 (drop start line) ≡ 0 → ⊥ = λ z. ne (omega arith) in
-    let l : up_to 32 (drop start line) < length (drop start line) = rw (length-drop start line) (omega arith) in
-    let q : start + suc (up_to 32 (drop start line)) ≡ end + 1 = omega arith in
-    let d : drop (suc (up_to 32 (drop start line))) (drop start line) ≡ drop (end + 1) line = drop-drop (suc (up_to 32 (drop start line))) start line ∙ ap (λ (i : ℕ). drop i line) q in
-    w ∙ rw (m, k, ne_eqb _ _ nonempty, lt-leb _ _ l, e, d)
-
-begin : (line : List ℕ) → words_of line ≡ words_behind 8 (passed line (replicate 8 0) (replicate 8 0) 0) line
-unfolding words_of passed
-begin line = refl
-
-no_places : (n i : ℕ) → get_or (replicate {A = ℕ} n 0) i 0 ≡ 0
-no_places zero i = refl
-no_places (suc n) zero = refl
-no_places (suc n) (suc i) = no_places n i
-
-still_free : (places : List ℕ) (n a : ℕ) → Free places n → Free (set places n a) (n + 1)
-still_free places n a free = λ i h. get_or-set_other places n i a 0 (λ q. omega arith) ∙ free i (omega arith)
-
-between_nothing : (line : List ℕ) → between line 0 0 ≡ []
-unfolding between
-between_nothing line = rw (le-ltb (length line) 0 (omega arith))
-
-free_word : (line : List ℕ) (r : Words) (i : ℕ) → get_or r.from i 0 ≡ 0 → get_or r.to i 0 ≡ 0 → word_at line r i ≡ []
-unfolding word_at
-free_word line r i f t = rw (f, t, between_nothing line) (either (leb 8 i))
+one : (n : ℕ) (passed : List (List ℕ)) (l : List ℕ) → length l ≤ up_to 32 l → cond (eqb (up_to 32 l) 0) [] (passed ++ (take (up_to 32 l) l ∷ [])) ≡ cond (leb (length (pieces 32 l)) (suc n) && list_all full (pieces 32 l)) (passed ++ pieces 32 l) []
+one n passed l h =
+    let u : up_to 32 l ≡ length l = omega (arith, up_to_most 32 l) in
+    rw (one_piece 32 l h, u, take-length l, le-leb 1 (suc n) (omega arith)) (go (eqb (length l) 0))
   where
-    either : (b : Bool) → cond {A = List ℕ} b [] [] ≡ []
+    go : (t : Bool) → cond t [] (passed ++ (l ∷ [])) ≡ cond (not t && true) (passed ++ (l ∷ [])) []
+    go true = refl
+    go false = refl
+
+more : (n : ℕ) (passed : List (List ℕ)) (l : List ℕ) (rest : List (List ℕ)) → up_to 32 l < length l → rest ≡ cond (leb (length (pieces 32 (drop (suc (up_to 32 l)) l))) n && list_all full (pieces 32 (drop (suc (up_to 32 l)) l))) ((passed ++ (take (up_to 32 l) l ∷ [])) ++ pieces 32 (drop (suc (up_to 32 l)) l)) [] → cond (eqb (up_to 32 l) 0) [] rest ≡ cond (leb (length (pieces 32 l)) (suc n) && list_all full (pieces 32 l)) (passed ++ pieces 32 l) []
+more n passed l rest h e =
+    let u : length (take (up_to 32 l) l) ≡ up_to 32 l = length-take-le (up_to 32 l) l (omega arith) in
+    rw (first_piece 32 l h, leb-suc-suc, u, e, append_assoc) (go (eqb (up_to 32 l) 0) (leb (length (pieces 32 (drop (suc (up_to 32 l)) l))) n))
+  where
+    go : (t b : Bool) → cond t [] (cond (b && list_all full (pieces 32 (drop (suc (up_to 32 l)) l))) (passed ++ (take (up_to 32 l) l ∷ pieces 32 (drop (suc (up_to 32 l)) l))) []) ≡ cond (b && (not t && list_all full (pieces 32 (drop (suc (up_to 32 l)) l)))) (passed ++ (take (up_to 32 l) l ∷ pieces 32 (drop (suc (up_to 32 l)) l))) []
+    go true true = refl
+    go true false = refl
+    go false b = refl
+
+behind_is : (n : ℕ) (passed : List (List ℕ)) (l : List ℕ) → words_behind n passed l ≡ cond (leb (length (pieces 32 l)) n && list_all full (pieces 32 l)) (passed ++ pieces 32 l) []
+unfolding words_behind
+behind_is zero passed l =
+    let k : 0 < length (pieces 32 l) = omega (arith, length-slice_split (λ x. eqb x 32) l) in
+    rw (lt-leb _ _ k) refl
+behind_is (suc n) passed l =
+    go (leb (length l) (up_to 32 l)) refl (behind_is n (passed ++ (take (up_to 32 l) l ∷ [])) (drop (suc (up_to 32 l)) l))
+  where
+    go : (t : Bool) → leb (length l) (up_to 32 l) ≡ t → words_behind n (passed ++ (take (up_to 32 l) l ∷ [])) (drop (suc (up_to 32 l)) l) ≡ cond (leb (length (pieces 32 (drop (suc (up_to 32 l)) l))) n && list_all full (pieces 32 (drop (suc (up_to 32 l)) l))) ((passed ++ (take (up_to 32 l) l ∷ [])) ++ pieces 32 (drop (suc (up_to 32 l)) l)) [] → cond (eqb (up_to 32 l) 0) [] (cond t (passed ++ (take (up_to 32 l) l ∷ [])) (words_behind n (passed ++ (take (up_to 32 l) l ∷ [])) (drop (suc (up_to 32 l)) l))) ≡ cond (leb (length (pieces 32 l)) (suc n) && list_all full (pieces 32 l)) (passed ++ pieces 32 l) []
+    go true k e = one n passed l (leb-true _ _ k)
+    go false k e = more n passed l _ (leb-false _ _ k) e
+
+-- ---- a turn
+
+still : (n : ℕ) (ps : List (List ℕ)) → n < length ps → list_all full (take n ps) ≡ true → full (nth ps n) ≡ true → list_all full (take (n + 1) ps) ≡ true
+still n ps h e f =
+    rw (take_more ps n [] h, list_all-append full (take n ps) (nth ps n ∷ []), e, f) refl
+
+step : (ws ps : List (List ℕ)) (n : ℕ) (p : List ℕ) → n < length ws → n < length ps → p ≡ nth ps n → ((i : ℕ) → nth ws i ≡ nth (take n ps) i) → (i : ℕ) → nth (set ws n p) i ≡ nth (take (n + 1) ps) i
+step ws ps n p room within e each i =
+    elim (ℕ_discrete i n) [
+      | yes q ↦
+          let k : n < n + 1 = omega arith in
+          rw (q, get_or-set_same ws n p [] room, get_or-take (n + 1) ps n [] k) e
+      | no ne ↦ get_or-set_other ws n i p [] ne ∙ each i ∙ go (ltb i n) refl ne
+    ]
+  where
+    go : (t : Bool) → ltb i n ≡ t → (i ≡ n → ⊥) → nth (take n ps) i ≡ nth (take (n + 1) ps) i
+    go true h ne =
+        get_or-take n ps i [] (ltb-true i n h)
+        ∙ sym (get_or-take (n + 1) ps i [] (omega (arith, ltb-true i n h)))
+    go false h ne =
+        get_or-eq_default (take n ps) [] (omega (arith, length-take n ps, ltb-false i n h))
+        ∙ sym (get_or-eq_default (take (n + 1) ps) [] (omega (arith, length-take (n + 1) ps, ltb-false i n h)))
+
+step_words : (words : List (Bor (List ℕ))) (ps : List (List ℕ)) (n : ℕ) (p : Bor (List ℕ)) → n < length words → n < length ps → p.now ≡ nth ps n → ((i : ℕ) → nth (map (λ w. w.now) words) i ≡ nth (take n ps) i) → (i : ℕ) → nth (map (λ w. w.now) (set words n p)) i ≡ nth (take (n + 1) ps) i
+step_words words ps n p room within e each i =
+    rw (map-set (λ w. w.now) words n p) (step (map (λ w. w.now) words) ps n p.now (omega (arith, length-map words (λ (w : Bor (List ℕ)). w.now))) within e each i)
+
+-- ---- the end
+
+none_of : (line : List ℕ) (r : Words) → r.n ≡ 0 → ((i : ℕ) → word_at r i ≡ []) → leb (length (pieces 32 line)) 8 && list_all full (pieces 32 line) ≡ false → Split line r
+unfolding words_of
+none_of line r z each e =
+    let w : words_of line ≡ [] = behind_is 8 [] line ∙ rw e refl in
+    record { count = rw w z; each = λ i. rw w (each i) }
+
+too_many : (line : List ℕ) → 8 < length (pieces 32 line) → leb (length (pieces 32 line)) 8 && list_all full (pieces 32 line) ≡ false
+too_many line h = rw (lt-leb _ _ h) refl
+
+has_empty : (line : List ℕ) (n : ℕ) → n < length (pieces 32 line) → full (nth (pieces 32 line) n) ≡ false → leb (length (pieces 32 line)) 8 && list_all full (pieces 32 line) ≡ false
+has_empty line n h f =
+    rw (and_fails_at (list_all full) full refl (λ _ _. refl) (pieces 32 line) n [] h f) (either (leb (length (pieces 32 line)) 8))
+  where
+    either : (t : Bool) → t && false ≡ false
     either true = refl
     either false = refl
 
-none : (line : List ℕ) (r : Words) → r ≡ no_words → words_of line ≡ [] → Split line r
-none line r e w =
+all_of : (line : List ℕ) (r : Words) → r.n ≤ 8 → r.n ≡ length (pieces 32 line) → list_all full (take r.n (pieces 32 line)) ≡ true → ((i : ℕ) → word_at r i ≡ nth (take r.n (pieces 32 line)) i) → Split line r
+unfolding words_of
+all_of line r most n passed each =
+    let all : take r.n (pieces 32 line) ≡ pieces 32 line = rw (n, take-length (pieces 32 line)) refl in
+    let few : length (pieces 32 line) ≤ 8 = omega arith in
+    let w : words_of line ≡ pieces 32 line = behind_is 8 [] line ∙ rw (le-leb _ _ few, rw all at passed) refl in
+    record { count = rw (w, n) refl; each = λ i. each i ∙ rw (all, w) refl }
+
+-- ---- where a turn is
+
+here : (ps : List (List ℕ)) (k n : ℕ) (w : List ℕ) → (k < length ps) × (w ≡ get_or ps k w) → n ≡ k → (n < length ps) × (w ≡ nth ps n)
+here ps k n w t e = rw e (t.0, get_or_read ps k w t.0 t.1 [])
+
+nothing : (n i : ℕ) → nth (replicate n []) i ≡ []
+nothing zero i = refl
+nothing (suc n) zero = refl
+nothing (suc n) (suc i) = nothing n i
+
+pub loop-word-init : goal.loop-word-init
+loop-word-init c = record { size = refl; most = omega arith; count = refl; passed = refl; each = nothing 8 }
+
+pub returns-then-is_empty : goal.returns-then-is_empty
+returns-then-is_empty c =
+    let e = c.into_iter-word-iterator.ensures.into_iter_gives in
+    let t = YieldsList-turn (yields_pieces _ 32 c.args.line.now e c.split-word-items.ensures.rest c.split-word-items.ensures.done c.split-word-items.ensures.closure (λ x b q k. search (rules, tests))) c.loop-word.yielded _ c.loop-word.yielded_by _ _ c.in-Some.word c.in-Some.is c.next.ensures.steps in
+    let h = here _ _ _ _ t c.loop-word.invariant.count in
+    none_of _ _ c.none.ensures.0 c.none.ensures.1 (
+    elim c.then-is_empty.either [
+      | inl e ↦ has_empty c.args.line.now c.loop-word.n h.0 (rw (← h.1, ← c.is_empty.ensures, e) refl)
+      | inr e ↦ too_many c.args.line.now (rw e.1 at h.0)
+    ]
+    )
+
+pub loop-word-preserved : goal.loop-word-preserved
+loop-word-preserved c =
+    let e = c.into_iter-word-iterator.ensures.into_iter_gives in
+    let t = YieldsList-turn (yields_pieces _ 32 c.args.line.now e c.split-word-items.ensures.rest c.split-word-items.ensures.done c.split-word-items.ensures.closure (λ x b q k. search (rules, tests))) c.loop-word.yielded _ c.loop-word.yielded_by _ _ c.in-Some.word c.in-Some.is c.next.ensures.steps in
+    let h = here _ _ _ _ t c.loop-word.invariant.count in
     record {
-      count = rw (e, w);
-      each = λ i. rw (e, w) (free_word line no_words i (no_places 8 i) (no_places 8 i));
+      size = simp length-set c.loop-word.invariant.size;
+      most = omega arith;
+      count = omega (arith, length_push c.loop-word.yielded c.in-Some.word);
+      passed = still _ _ h.0 c.loop-word.invariant.passed (rw (← h.1, ← c.is_empty.ensures, c.if-is_empty.false) refl);
+      each = step_words _ _ _ _ (omega arith) h.0 h.1 c.loop-word.invariant.each;
     }
-
-word_passed : (line : List ℕ) (r : Words) (i : ℕ) → r.n ≤ 8 → i < r.n → word_at line r i ≡ nth (passed line r.from r.to r.n) i
-unfolding word_at
-word_passed line r i most h = rw (lt-leb 8 i (omega arith)) (sym (nth_passed line r.from r.to r.n i h))
-
-word_behind : (line : List ℕ) (r : Words) (i : ℕ) → Free r.from r.n → Free r.to r.n → r.n ≤ i → word_at line r i ≡ nth (passed line r.from r.to r.n) i
-word_behind line r i f t h =
-    free_word line r i (f i h) (t i h)
-    ∙ sym (get_or-eq_default (passed line r.from r.to r.n) [] (omega (arith, length_passed line r.from r.to r.n)))
-
-either_word : (line : List ℕ) (r : Words) (i : ℕ) (b : Bool) → ltb i r.n ≡ b → r.n ≤ 8 → Free r.from r.n → Free r.to r.n → word_at line r i ≡ nth (passed line r.from r.to r.n) i
-either_word line r i true h most f t = word_passed line r i most (ltb-true i r.n h)
-either_word line r i false h most f t = word_behind line r i f t (ltb-false i r.n h)
-
-done : (line : List ℕ) (r : Words) → r.n ≤ 8 → Free r.from r.n → Free r.to r.n → words_of line ≡ passed line r.from r.to r.n → Split line r
-done line r most f t w =
-    record {
-      count = sym (ap length w ∙ length_passed line r.from r.to r.n);
-      each = λ i. either_word line r i (ltb i r.n) refl most f t ∙ ap (λ (ws : List (List ℕ)). nth ws i) (sym w);
-    }
-
--- the last word, and the end
-finish : (line from to : List ℕ) (n start end : ℕ) → n < 8 → length from ≡ 8 → length to ≡ 8 → start ≤ end → end ≤ length line → end ≡ start + up_to 32 (drop start line) → (end ≡ start → ⊥) → length line ≤ end → Free from n → Free to n → words_of line ≡ words_behind (8 - n) (passed line from to n) (drop start line) → Split line (record { n = n + 1; from = set from n start; to = set to n end })
-finish line from to n start end room lf lt order within at ne past f t w =
-    let r : Words = record { n = n + 1; from = set from n start; to = set to n end } in
-    let one : passed line (set from n start) (set to n end) (n + 1) ≡ passed line from to n ++ (take (up_to 32 (drop start line)) (drop start line) ∷ []) = more line from to n start end room lf lt order within at in
-    done line r (omega arith) (still_free from n start f) (still_free to n end t) (last line (passed line from to n) (passed line (set from n start) (set to n end) (n + 1)) n start end room order at ne past one w)
-
-pub loop-n-init : goal.loop-n-init
-loop-n-init c = (search rules, search rules, search rules, search rules, search begin, λ i h. no_places 8 i, λ i h. no_places 8 i)
-
-pub returns-then-end-start : goal.returns-then-end-start
-returns-then-end-start c = search (none, empty) depth 9
-
-pub returns-then-line-end : goal.returns-then-line-end
-returns-then-line-end c = search finish depth 14
-
-pub loop-n-preserved : goal.loop-n-preserved
-loop-n-preserved c = (search rules, simp length-set (omega arith), simp length-set (omega arith), search rules, search (next, more) depth 12, search still_free, search still_free)
 
 pub returns : goal.returns
-returns c = search (none, full) depth 9
+returns c =
+    let e = c.into_iter-word-iterator.ensures.into_iter_gives in
+    let t = YieldsList-end (yields_pieces _ 32 c.args.line.now e c.split-word-items.ensures.rest c.split-word-items.ensures.done c.split-word-items.ensures.closure (λ x b q k. search (rules, tests))) c.loop-word.yielded _ c.loop-word.yielded_by _ _ c.in-None.is c.next.ensures.steps in
+    all_of _ _ c.loop-word.invariant.most (c.loop-word.invariant.count ∙ t.1) c.loop-word.invariant.passed c.loop-word.invariant.each

@@ -1,0 +1,32 @@
+-- The entries of a list as chunks of two bytes.
+-- Assumes nothing.
+use Rattle.std.specs.Prelude.{◌≡◌, refl, ◌||◌, List, [], ◌∷◌, map, eqb, take, drop, length}
+use Rattle.std.proofs.Common.{ap, ◌∙◌, take-take, drop-drop}
+use Rattle.std.proofs.lemmas.List.{drop-take}
+use Prim.Native.Nat.{ℕ, zero, suc, ◌+◌, ◌*◌, ◌≤◌}
+use native.Mathlib.Omega.{arith}
+use Rattle.std.specs.List.{list_any}
+use Rattle.std.specs.Simd.{first_chunks}
+use Rattle.leaf_fields.specs.Fields.{from_le, part}
+use Rattle.messages.specs.Answers.{entries}
+use Rattle.proposer_rules.specs.State.{listed}
+
+abbrev pub numbers : List (List ℕ) → List ℕ
+numbers l = map (λ e. from_le (part e 0 2)) l
+
+chunks_are : (n : ℕ) (s : List ℕ) (at : ℕ) → numbers (first_chunks 2 n (take (2 * n) (drop at s))) ≡ entries s at n
+unfolding entries
+chunks_are zero s at = refl
+chunks_are (suc n) s at =
+    let more : 2 * suc n ≡ 2 + 2 * n = omega arith in
+    let here : take 2 (take 2 (take (2 + 2 * n) (drop at s))) ≡ take 2 (drop at s) = take-take 2 2 (take (2 + 2 * n) (drop at s)) (omega arith) ∙ take-take 2 (2 + 2 * n) (drop at s) (omega arith) in
+    let behind : drop 2 (take (2 + 2 * n) (drop at s)) ≡ take (2 * n) (drop (at + 2) s) = drop-take 2 (2 * n) (drop at s) ∙ ap (take (2 * n)) (drop-drop 2 at s) in
+    rw (more, here, behind) (ap (λ l. from_le (part s at 2) ∷ l) (chunks_are n s (at + 2)))
+
+pub entries_are : (s : List ℕ) (at n k : ℕ) (l : List (List ℕ)) → at + 2 * n ≤ length s → k ≡ n → l ≡ first_chunks 2 k (take (2 * n) (drop at s)) → numbers l ≡ entries s at n
+entries_are s at n k l room many e = ap numbers (e ∙ ap (λ m. first_chunks 2 m (take (2 * n) (drop at s))) many) ∙ chunks_are n s at
+
+pub listed_entry : (a : ℕ) (l : List (List ℕ)) → list_any (λ e. eqb (from_le (part e 0 2)) a) l ≡ listed a (numbers l)
+unfolding listed
+listed_entry a [] = refl
+listed_entry a (e ∷ l) = ap (λ r. eqb (from_le (part e 0 2)) a || r) (listed_entry a l)
