@@ -62,19 +62,17 @@ impl From<[u64; 8]> for Head {
     }
 }
 
+// A number of the header for a type of another crate, so no `From`: this and the next.
 fn mark_of(n: u64) -> Option<Lent>
     ensures { result ≡ mark_of n }
 {
-    if n == 0 { None } else { Some(Lent) }
+    (n != 0).then_some(Lent)
 }
 
 fn mark_number(o: Option<Lent>) -> u64
     ensures { result ≡ mark_number o }
 {
-    match o {
-        None => 0,
-        Some(_) => 1,
-    }
+    u64::from(o.is_some())
 }
 
 impl Head {

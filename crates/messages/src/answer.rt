@@ -15,7 +15,7 @@ pub const ROWS_AT: usize = 350;
 
 pub const ROW: usize = 10;
 
-// An answer of 01. The bytes of its message stand in the lent answer area (docs/LAYOUT.md): the value at its front, then the key, the
+// An answer of 01, of which a refusal is one. The bytes of its message stand in the lent answer area (docs/LAYOUT.md): the value at its front, then the key, the
 // entries that a broadcast goes to, and the rows of timeouts. specs/Answers.antt says which answer an enum and an area are.
 #[derive(Clone, Copy, PartialEq, Eq)]
 pub enum Answer {

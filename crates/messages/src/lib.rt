@@ -142,7 +142,7 @@ impl Rpc {
     }
 }
 
-// The address at a place of a list; 0, which is no address, past its end.
+// The address at a place of a list; 0, which is no address, past its end, as `listed_at` says.
 pub fn address_at(list: &[u16], place: Place) -> Address
     ensures { result ≡ listed_at list.now place }
 {

@@ -2,7 +2,7 @@
 -- Assumes nothing.
 use Rattle.std.specs.Prelude.{◌≡◌, Bool, true, false, not, cond, ◌&&◌, List, [], ◌∷◌, ℕ, eqb, length}
 use Rattle.std.proofs.Math.Path.{refl, sym}
-use Rattle.std.proofs.Common.{ap, ◌∙◌, eqb-true}
+use Rattle.std.proofs.Common.{ap, ◌∙◌, eqb-true, subst}
 use Rattle.std.proofs.lemmas.Option.{none-some}
 use Rattle.leaf_fields.specs.Fields.{Bytes}
 use Rattle.std.specs.Prelude.{Option, None, Some}
@@ -79,6 +79,10 @@ module _ (a w : List ℕ) (n : ℕ) (t : Option Refusal) (et : t ≡ first_due (
   pub ticked : (at : ℕ) → Worked w (tick (read_area a n) at) r a' w' → Done a w (tick_on a n w at) r a' w'
   unfolding tick_on
   ticked at h = done (tick (read_area a n) at) (tick_keeps (read_area a n) at) h
+
+-- a lent slice ends as what was left behind the reference of its name
+pub left_behind : (a w : List ℕ) (o : Outcome) (r : Answer) (x y w' : List ℕ) (g h : ℕ) → (g ≡ h → x ≡ y) → h ≡ g → Done a w o r y w' → Done a w o r x w'
+left_behind a w o r x y w' g h ends same done-there = subst (λ (z : List ℕ). Done a w o r z w') (sym (ends (sym same))) done-there
 
 -- ---- the start
 

@@ -8,7 +8,7 @@ ghost use Rattle.messages.specs.Message.{arrived, message_of};
 ghost use Rattle.messages.specs.Refusals.{first_due};
 ghost use Rattle.proposer_rules.specs.Rules.{foreign};
 ghost use Rattle.proposer_rules.specs.Rules as Rules;
-ghost use Rattle.proposer_place.specs.Area.{read_area, may_be_lent};
+ghost use Rattle.proposer_place.specs.Area.{may_be_lent};
 ghost use Rattle.proposer.specs.Contract.{
   area_tests,
   outcome_on,
@@ -17,11 +17,12 @@ ghost use Rattle.proposer.specs.Contract.{
   Done,
   Started,
 };
-ghost use Rattle.proposer_area.specs.Held.{Held};
-ghost use Rattle.proposer_works.specs.Works.{answer_bytes, Worked};
+ghost use Rattle.proposer_area.specs.State.{state};
+ghost use Rattle.proposer_works.specs.Works.{answer_bytes, WorkedOn};
 
 pub use messages::{ENTRIES_AT, KEY_AT, ROW, ROWS_AT};
 use messages::{Address, Answer, Incoming, Refusal, Rpc};
+use proposer_area::Area;
 
 // The start: counter 0, nothing pending, and one given list as both lists. Refusals are 1 and 4.
 pub fn start(area: &mut [u8], places: usize, timeout: u64, list: &[u16]) -> Answer
@@ -65,7 +66,11 @@ pub fn receive(
     if let Some(refusal) = refused(area, places, answer) {
         return Answer::Refused(refusal);
     }
-    work(area, places, from, at, message, answer)
+    let mut area = Area {
+        bytes: area,
+        places,
+    };
+    work(&mut area, from, at, message, answer)
 }
 
 // The refusal of a message that is over the limits: a wrong kind ranks before them.
@@ -79,16 +84,9 @@ fn over_limit(rpc: Rpc) -> Refusal
 }
 
 // The same on an area that is an image.
-fn work(
-    area: &mut [u8],
-    places: usize,
-    from: Address,
-    at: u64,
-    message: Incoming,
-    answer: &mut [u8],
-) -> Answer
-    requires { (Held area.old places) × (length answer.old ≡ answer_bytes places) × (may_be_lent (read_area area.old places) ≡ true) }
-    ensures { Worked answer.old (Rules.receive (read_area area.old places) from at (arrived message.entry)) result area.new answer.new }
+fn work(area: &mut Area<'_>, from: Address, at: u64, message: Incoming, answer: &mut [u8]) -> Answer
+    requires { (length answer.old ≡ answer_bytes area.old.places) × (may_be_lent (state area.old) ≡ true) }
+    ensures { WorkedOn area.old answer.old (Rules.receive (state area.old) from at (arrived message.entry)) result area.new answer.new }
 {
     if !message.fits(from) {
         return Answer::Refused(over_limit(message.rpc));
@@ -102,14 +100,14 @@ fn work(
     } = message;
     match rpc {
         Rpc::ClientRequest(id, req) => {
-            proposer_request::request(area, places, from, at, id, req, key, value, other, answer)
+            proposer_request::request(area, from, at, id, req, key, value, other, answer)
         }
         Rpc::SetAcceptAcceptors => {
-            proposer_lists::set_accept(area, places, list);
+            proposer_lists::set_accept(area, list);
             Answer::Nothing
         }
         Rpc::SetProposeAcceptors => {
-            proposer_lists::set_propose(area, places, list);
+            proposer_lists::set_propose(area, list);
             Answer::Nothing
         }
         Rpc::ProposeRes {
@@ -119,7 +117,6 @@ fn work(
             res,
         } => proposer_promise::promise(
             area,
-            places,
             from,
             req_ballot,
             last_accepted_ballot,
@@ -129,7 +126,7 @@ fn work(
             answer,
         ),
         Rpc::AcceptRes(ballot, res) => {
-            proposer_acceptance::acceptance(area, places, from, ballot, res, answer)
+            proposer_acceptance::acceptance(area, from, ballot, res, answer)
         }
         Rpc::ClientResponse(..) | Rpc::ProposeReq(_) | Rpc::AcceptReq(..) => {
             Answer::Refused(Refusal::WrongKind)
@@ -144,5 +141,9 @@ pub fn tick(area: &mut [u8], places: usize, t: u64, answer: &mut [u8]) -> Answer
     if let Some(refusal) = refused(area, places, answer) {
         return Answer::Refused(refusal);
     }
-    proposer_clock::tick(area, places, t, answer)
+    let mut area = Area {
+        bytes: area,
+        places,
+    };
+    proposer_clock::tick(&mut area, t, answer)
 }

@@ -12,13 +12,12 @@ ghost use Rattle.proposer_rules.specs.Rules.{
   on_acceptance,
 };
 ghost use Rattle.proposer_change.specs.Change.{applied_in};
-ghost use Rattle.proposer_place.specs.Area.{read_pending, read_area, may_be_lent};
-ghost use Rattle.proposer_area.specs.Places.{place_in};
-ghost use Rattle.proposer_works.specs.Works.{answer_bytes, Asks, Worked, settled};
-ghost use Rattle.proposer_area.specs.Held.{Held, Pends};
+ghost use Rattle.proposer_place.specs.Area.{may_be_lent};
+ghost use Rattle.proposer_area.specs.State.{state, pending, HasPending};
+ghost use Rattle.proposer_works.specs.Works.{answer_bytes, MayAsk, WorkedOn, settled};
 
 use messages::{Address, Answer, Ballot, Error, Lent, Refusal, Rpc};
-use proposer_area::HEADER;
+use proposer_area::{Area, HEADER};
 use proposer_change::Change;
 use proposer_place::{PLACE, PROMISED, Phase, VALUES};
 use proposer_works::{drop_with, raise_with, short_of};
@@ -44,9 +43,9 @@ fn response(failed: bool, mark: Option<Lent>) -> Result<Option<Lent>, Error>
 }
 
 // The request at place i is settled: it is dropped and its client told.
-fn settle(area: &mut [u8], places: usize, i: usize, answer: &mut [u8]) -> Answer
-    requires { (Held area.old places) × (length answer.old ≡ answer_bytes places) × (Pends area.old places i) }
-    ensures { Worked answer.old (settled (read_area area.old places) i (read_pending (place_in area.old i))) result area.new answer.new }
+fn settle(area: &mut Area<'_>, i: usize, answer: &mut [u8]) -> Answer
+    requires { (length answer.old ≡ answer_bytes area.old.places) × HasPending area.old i }
+    ensures { WorkedOn area.old answer.old (settled (state area.old) i (pending area.old i)) result area.new answer.new }
 {
     let f = proposer_area::take_place(area, i);
     let place = HEADER + PLACE * i;
@@ -54,17 +53,18 @@ fn settle(area: &mut [u8], places: usize, i: usize, answer: &mut [u8]) -> Answer
     let both = values + f.first_len + f.second_len;
     let promised = place + PROMISED;
     let end = promised + f.value_len;
+    let bytes = area.bytes();
     let change = Change {
         req: f.req,
-        request: &area[values..both],
+        request: &bytes[values..both],
         split: f.first_len,
         mark: f.mark,
-        promised: &area[promised..end],
+        promised: &bytes[promised..end],
     };
     let failed = change.cas_failed();
     let new = change.new_mark();
     let len = tell_new(answer, change);
-    proposer_area::drop_place(area, i);
+    proposer_area::drop_place(area.bytes, i);
     Answer::Message {
         to: f.client,
         rpc: Rpc::ClientResponse(f.id, response(failed, new)),
@@ -73,46 +73,45 @@ fn settle(area: &mut [u8], places: usize, i: usize, answer: &mut [u8]) -> Answer
 }
 
 // An acceptance from one who is waited for and has not answered.
-fn taken(area: &mut [u8], places: usize, i: usize, from: Address, answer: &mut [u8]) -> Answer
-    requires { (Held area.old places) × (length answer.old ≡ answer_bytes places) × (Asks area.old places i) }
-    ensures { Worked answer.old (acceptance_work (read_area area.old places) (read_pending (place_in area.old i)) from Verdict.Granted) result area.new answer.new }
+fn taken(area: &mut Area<'_>, i: usize, from: Address, answer: &mut [u8]) -> Answer
+    requires { (length answer.old ≡ answer_bytes area.old.places) × MayAsk area.old i }
+    ensures { WorkedOn area.old answer.old (acceptance_work (state area.old) (pending area.old i) from Verdict.Granted) result area.new answer.new }
 {
     let f = proposer_area::take_place(area, i);
     if short_of(f.acks_from + 1, f.waiting_for) {
-        proposer_area::note_yes(area, i, from);
+        proposer_area::note_yes(area.bytes, i, from);
         return Answer::Nothing;
     }
-    settle(area, places, i, answer)
+    settle(area, i, answer)
 }
 
 // A refused acceptance from one who is waited for and has not answered.
-fn turned_down(area: &mut [u8], places: usize, i: usize, from: Address, last: Ballot) -> Answer
-    requires { (Held area.old places) × (Asks area.old places i) }
-    ensures { (w : List ℕ) → Worked w (acceptance_work (read_area area.old places) (read_pending (place_in area.old i)) from (Verdict.Denied (Failure.AcceptRejected last))) result area.new w }
+fn turned_down(area: &mut Area<'_>, i: usize, from: Address, last: Ballot) -> Answer
+    requires { MayAsk area.old i }
+    ensures { (w : List ℕ) → WorkedOn area.old w (acceptance_work (state area.old) (pending area.old i) from (Verdict.Denied (Failure.AcceptRejected last))) result area.new w }
 {
-    let h = proposer_area::take_header(area);
+    let h = area.header();
     let f = proposer_area::take_place(area, i);
     let counter = h.counter.max(last.0);
     if short_of(f.nacks_from + 1, f.waiting_for) {
-        raise_with(area, places, i, counter, from);
+        raise_with(area, i, counter, from);
         return Answer::Nothing;
     }
-    drop_with(area, places, i, counter, Error::AcceptRejected { last })
+    drop_with(area, i, counter, Error::AcceptRejected { last })
 }
 
 // An answer to an accept request, within the limits.
 pub fn acceptance(
-    area: &mut [u8],
-    places: usize,
+    area: &mut Area<'_>,
     from: Address,
     ballot: Ballot,
     res: Result<(), Error>,
     answer: &mut [u8],
 ) -> Answer
-    requires { (Held area.old places) × (length answer.old ≡ answer_bytes places) × (may_be_lent (read_area area.old places) ≡ true) }
-    ensures { (w : List ℕ) → Worked answer.old (on_acceptance (read_area area.old places) (pending_at ballot (read_area area.old places).places) from (result_of res w)) result area.new answer.new }
+    requires { (length answer.old ≡ answer_bytes area.old.places) × (may_be_lent (state area.old) ≡ true) }
+    ensures { (w : List ℕ) → WorkedOn area.old answer.old (on_acceptance (state area.old) (pending_at ballot (state area.old).places) from (result_of res w)) result area.new answer.new }
 {
-    let Some(i) = proposer_area::find(area, places, ballot) else {
+    let Some(i) = proposer_area::find(area, ballot) else {
         return Answer::Nothing;
     };
     let f = proposer_area::take_place(area, i);
@@ -126,9 +125,9 @@ pub fn acceptance(
         return Answer::Refused(Refusal::NotWaitedFor);
     }
     match res {
-        Ok(_) => taken(area, places, i, from, answer),
+        Ok(_) => taken(area, i, from, answer),
         Err(e) => match e {
-            Error::AcceptRejected { last } => turned_down(area, places, i, from, last),
+            Error::AcceptRejected { last } => turned_down(area, i, from, last),
             Error::ProposalRejected { .. } | Error::CasFailed(_) | Error::Timeout => {
                 Answer::Refused(Refusal::ForeignError)
             }

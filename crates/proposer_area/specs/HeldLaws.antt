@@ -1,6 +1,6 @@
 -- What holds of an area that is an image: its size, its places, and the area with another counter or another place.
 -- Assumes nothing.
-use Rattle.std.specs.Prelude.{◌≡◌, true, List, [], ◌∷◌, ℕ, zero, suc, ◌+◌, ◌-◌, ◌*◌, ◌≤◌, ◌<◌, length, get_or, set, take, drop}
+use Rattle.std.specs.Prelude.{◌≡◌, true, List, [], ◌∷◌, ℕ, zero, suc, ◌+◌, ◌-◌, ◌*◌, ◌^◌, ◌≤◌, ◌<◌, length, get_or, set, take, drop}
 use Rattle.std.proofs.Math.Path.{refl, sym, ap}
 use Rattle.std.proofs.Common.{subst, ◌∙◌, append-nil, zero-add, suc-add, le-leb, eq-eqb, length-append, take-take, drop-drop}
 use Rattle.std.specs.Prelude.{Option, None, Some}
@@ -18,7 +18,7 @@ use Rattle.proposer_place.specs.AreaRows.{entries_there}
 use Rattle.proposer_place.specs.AreaBytes.{bytes_area}
 use Rattle.proposer_place.specs.Rows.{entries-length, entries_bytes}
 use Rattle.proposer_place.specs.AreaRead.{lawful_read, image_lent}
-use Rattle.proposer_place.specs.PlaceLaws.{area_place, area_part, area_counter, key_part, values_part, promised_part}
+use Rattle.proposer_place.specs.PlaceLaws.{area_place, area_part, area_counter, lawful_counter, lawful_place_set, key_part, values_part, promised_part}
 use Rattle.proposer_place.specs.Front.{Used}
 use Rattle.proposer_area.specs.Turns.{sized_of}
 use Rattle.proposer_area.specs.Places.{place_at, place_in}
@@ -77,6 +77,24 @@ module _ (a : List ℕ) (n : ℕ) (held : Held a n) where
   with_both i c q lt ok =
       ap (λ (r : List ℕ). sets r counter_at (to_le 8 c)) (with_place i q lt ok)
       ∙ area_counter (moved state state.counter (set state.places i q)) c
+
+-- ---- and it may be held again
+
+pub moved_held : (a : List ℕ) (n i c : ℕ) (q : Option Pending) (a' : List ℕ) → Held a n → LawfulPlace q → c < 256 ^ 8 → a' ≡ area_image (moved (read_area a n) c (set (read_area a n).places i q)) → Held a' n
+moved_held a n i c q a' held ok fits e =
+    let size = sized_of a n held.sized in
+    let s = moved (read_area a n) (read_area a n).counter (set (read_area a n).places i q) in
+    subst (λ (r : List ℕ). Held r n) (sym e)
+    (state_held (moved s c s.places) n (lawful_counter s n c (lawful_place_set (read_area a n) n i q held.lawful ok) fits) size.least size.most)
+
+pub place_held : (a : List ℕ) (n i : ℕ) (q : Option Pending) (a' : List ℕ) → Held a n → i < n → LawfulPlace q → a' ≡ sets a (place_at i) (place_image q) → Held a' n
+place_held a n i q a' held lt ok e = moved_held a n i (read_area a n).counter q a' held ok held.lawful.counter_fits (e ∙ with_place a n held i q lt ok)
+
+pub counter_held : (a : List ℕ) (n c : ℕ) (a' : List ℕ) → Held a n → c < 256 ^ 8 → a' ≡ sets a counter_at (to_le 8 c) → Held a' n
+counter_held a n c a' held fits e =
+    let size = sized_of a n held.sized in
+    subst (λ (r : List ℕ). Held r n) (sym (e ∙ ap (λ (r : List ℕ). sets r counter_at (to_le 8 c)) held.image ∙ area_counter (read_area a n) c))
+    (state_held (moved (read_area a n) c (read_area a n).places) n (lawful_counter (read_area a n) n c held.lawful fits) size.least size.most)
 
 -- ---- its lists
 

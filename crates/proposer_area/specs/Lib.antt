@@ -5,4 +5,6 @@ pub mod Entries
 pub mod Chunks
 pub mod Held
 pub mod HeldLaws
+pub mod HeldProp
 pub mod PlaceLent
+pub mod State

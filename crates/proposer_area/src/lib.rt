@@ -1,6 +1,7 @@
 // The proposer's lent area: its header, its places, and the searches over them.
 #![tactic(auto)]
 
+mod area;
 mod entries;
 mod places;
 mod search;
@@ -11,6 +12,7 @@ ghost use Rattle.leaf_fields.specs.Fields.{to_le};
 ghost use Rattle.proposer_place.specs.Area.{counter_at, header_bytes, sized};
 ghost use Rattle.proposer_area.specs.Places.{header_in};
 
+pub use area::Area;
 pub use entries::{address, list, listed};
 use messages::PENDING_MOST;
 pub use places::{

@@ -17,9 +17,11 @@ ghost use Rattle.proposer_place.specs.Area.{
   read_pending,
 };
 ghost use Rattle.proposer_place.specs.Front.{front_of, front_bytes, place_rows, Small, Used};
+ghost use Rattle.proposer_area.specs.State.{pending};
 ghost use Rattle.proposer_area.specs.Places.{place_at, place_in, place_range, places_in};
 
 use super::HEADER;
+use super::area::Area;
 use super::entries::{list, listed};
 use messages::{Address, Ballot, Lent};
 use proposer_place::{Front, NO, PLACE, WAITED, YES};
@@ -46,28 +48,28 @@ fn place(i: usize) -> Range<usize>
 // which the check proves of a field or of a call's result, and of no part of a slice.
 
 // The front of place i, taken out.
-pub fn take_place(area: &[u8], i: usize) -> Front
-    requires { place_at i + place_bytes ≤ length area.now }
-    ensures { (result ≡ front_of (read_pending (place_in area.now i))) × (Small result) × (result.first_len + result.second_len ≤ 768) × (result.value_len ≤ 256) }
+pub fn take_place(area: &Area<'_>, i: usize) -> Front
+    requires { i < area.now.places }
+    ensures { (result ≡ front_of (pending area.now i)) × (Small result) × (result.first_len + result.second_len ≤ 768) × (result.value_len ≤ 256) }
 {
-    proposer_place::take(&area[place(i)])
+    proposer_place::take(&area.bytes[place(i)])
 }
 
 // Whether an address has answered the request at place i in this phase.
-pub fn has_answered(area: &[u8], i: usize, f: Front, from: Address) -> bool
-    requires { (place_at i + place_bytes ≤ length area.now) × (f ≡ front_of (read_pending (place_in area.now i))) × (f.acks_from ≤ list_most) × (f.nacks_from ≤ list_most) }
-    ensures { result ≡ (listed from.0 (read_pending (place_in area.now i)).acks_from || listed from.0 (read_pending (place_in area.now i)).nacks_from) }
+pub fn has_answered(area: &Area<'_>, i: usize, f: Front, from: Address) -> bool
+    requires { (i < area.now.places) × (f ≡ front_of (pending area.now i)) × (f.acks_from ≤ list_most) × (f.nacks_from ≤ list_most) }
+    ensures { result ≡ (listed from.0 (pending area.now i).acks_from || listed from.0 (pending area.now i).nacks_from) }
 {
-    let b = &area[place(i)];
+    let b = &area.bytes[place(i)];
     listed(list(b, YES, f.acks_from), from.0) || listed(list(b, NO, f.nacks_from), from.0)
 }
 
 // Whether an address is waited for by the request at place i.
-pub fn is_waited_for(area: &[u8], i: usize, f: Front, from: Address) -> bool
-    requires { (place_at i + place_bytes ≤ length area.now) × (f ≡ front_of (read_pending (place_in area.now i))) × (f.waiting_for ≤ list_most) }
-    ensures { result ≡ listed from.0 (read_pending (place_in area.now i)).waiting_for }
+pub fn is_waited_for(area: &Area<'_>, i: usize, f: Front, from: Address) -> bool
+    requires { (i < area.now.places) × (f ≡ front_of (pending area.now i)) × (f.waiting_for ≤ list_most) }
+    ensures { result ≡ listed from.0 (pending area.now i).waiting_for }
 {
-    listed(list(&area[place(i)], WAITED, f.waiting_for), from.0)
+    listed(list(&area.bytes[place(i)], WAITED, f.waiting_for), from.0)
 }
 
 // Place i made free.

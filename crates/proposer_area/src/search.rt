@@ -4,7 +4,6 @@ ghost use Rattle.leaf_fields.specs.Fields.{byte};
 ghost use Rattle.proposer_rules.specs.State.{listed};
 ghost use Rattle.proposer_rules.specs.Rules.{is_ballot};
 ghost use Rattle.proposer_place.specs.Area.{
-  header_bytes,
   used_at,
   place_bytes,
   read_pending,
@@ -14,7 +13,9 @@ ghost use Rattle.proposer_place.specs.Area.{
 };
 ghost use Rattle.std.specs.Prelude.{MatchOption};
 ghost use Rattle.proposer_area.specs.Places.{place_at, place_of, free_of};
+ghost use Rattle.proposer_area.specs.State.{state};
 
+use super::area::Area;
 use super::places::places_in;
 use messages::Ballot;
 use proposer_place::PLACE;
@@ -35,19 +36,17 @@ pub fn held(area: &[u8], first: usize, places: usize, ballot: Ballot) -> bool
 }
 
 // The place of the request at a ballot.
-pub fn find(area: &[u8], places: usize, ballot: Ballot) -> Option<usize>
-    requires { sized area.now places ≡ true }
-    ensures { MatchOption result (place_of ballot (read_places area.now header_bytes places) ≡ places) (λ i. (i ≡ place_of ballot (read_places area.now header_bytes places)) × (i < places)) }
+pub fn find(area: &Area<'_>, ballot: Ballot) -> Option<usize>
+    ensures { MatchOption result (place_of ballot (state area.now).places ≡ area.now.places) (λ i. (i ≡ place_of ballot (state area.now).places) × (i < area.now.places)) }
 {
-    places_in(area).iter().position(|b| holds(b, ballot))
+    places_in(&area.bytes).iter().position(|b| holds(b, ballot))
 }
 
 // The lowest free place.
-pub fn lowest_free(area: &[u8], places: usize) -> Option<usize>
-    requires { sized area.now places ≡ true }
-    ensures { MatchOption result (free_of (read_places area.now header_bytes places) ≡ places) (λ i. (i ≡ free_of (read_places area.now header_bytes places)) × (i < places)) }
+pub fn lowest_free(area: &Area<'_>) -> Option<usize>
+    ensures { MatchOption result (free_of (state area.now).places ≡ area.now.places) (λ i. (i ≡ free_of (state area.now).places) × (i < area.now.places)) }
 {
-    places_in(area)
+    places_in(&area.bytes)
         .iter()
         .position(|b| proposer_place::is_free(b))
 }

@@ -24,7 +24,7 @@ pub struct Change<'a> {
     // the value of a `Set`; of a `Cas` the old value's `split` bytes, then the new value
     pub request: &'a [u8],
     pub split: usize,
-    // whether there is a promised value, and its bytes
+    // whether there is a promised value, and its bytes, lent beside it as those of a message are (01, 'bytes beside them')
     pub mark: Option<Lent>,
     pub promised: &'a [u8],
 }

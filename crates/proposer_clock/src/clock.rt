@@ -1,18 +1,12 @@
 // The clock: arrivals that a tick is earlier than, and requests that are over time.
-ghost use Rattle.std.specs.Prelude.{◌≡◌, true, not, ◌&&◌, ◌||◌, ◌-◌, ◌<◌, eqb, ltb, MatchOption};
+ghost use Rattle.std.specs.Prelude.{◌≡◌, not, ◌&&◌, ◌||◌, ◌-◌, ◌<◌, eqb, ltb, MatchOption};
 ghost use Rattle.leaf_fields.specs.Fields.{byte};
 ghost use Rattle.proposer_rules.specs.Rules.{clock_back};
-ghost use Rattle.proposer_place.specs.Area.{
-  header_bytes,
-  used_at,
-  read_pending,
-  read_places,
-  read_area,
-  sized,
-};
+ghost use Rattle.proposer_place.specs.Area.{used_at, read_pending};
+ghost use Rattle.proposer_area.specs.State.{state};
 ghost use Rattle.proposer_clock.specs.Late.{late_of};
 
-use proposer_area::places_in;
+use proposer_area::{Area, places_in};
 use proposer_place::PLACE;
 
 // Whether a place's request arrived after time t.
@@ -23,11 +17,10 @@ fn ahead(b: &[u8; PLACE], t: u64) -> bool
 }
 
 // Whether a tick at t is earlier than some pending arrival.
-pub fn clock_back(area: &[u8], places: usize, t: u64) -> bool
-    requires { sized area.now places ≡ true }
-    ensures { result ≡ clock_back t (read_places area.now header_bytes places) }
+pub fn clock_back(area: &Area<'_>, t: u64) -> bool
+    ensures { result ≡ clock_back t (state area.now).places }
 {
-    places_in(area).iter().any(|b| ahead(b, t))
+    places_in(&area.bytes).iter().any(|b| ahead(b, t))
 }
 
 // Whether a place's request is over time: at t more than the timeout has passed since its arrival.
@@ -38,11 +31,11 @@ fn late(b: &[u8; PLACE], t: u64, timeout: u64) -> bool
 }
 
 // The place of the late request with the lowest ballot.
-pub fn lowest_late(area: &[u8], places: usize, t: u64, timeout: u64) -> Option<usize>
-    requires { (sized area.now places ≡ true) × (timeout ≡ (read_area area.now places).timeout) }
-    ensures { MatchOption result (late_of (read_area area.now places) t (read_places area.now header_bytes places) ≡ places) (λ i. (i ≡ late_of (read_area area.now places) t (read_places area.now header_bytes places)) × (i < places)) }
+pub fn lowest_late(area: &Area<'_>, t: u64, timeout: u64) -> Option<usize>
+    requires { timeout ≡ (state area.now).timeout }
+    ensures { MatchOption result (late_of (state area.now) t (state area.now).places ≡ area.now.places) (λ i. (i ≡ late_of (state area.now) t (state area.now).places) × (i < area.now.places)) }
 {
-    places_in(area)
+    places_in(&area.bytes)
         .iter()
         .enumerate()
         .filter(|(_, b)| late(b, t, timeout))

@@ -8,12 +8,12 @@ ghost use Rattle.std.proofs.lemmas.List.Edits.{sets};
 ghost use Rattle.messages.specs.Answers.{rows_at, row_bytes, rows_bytes};
 ghost use Rattle.proposer_rules.specs.Rules.{moved, in_time, late_ones, rows_of};
 ghost use Rattle.proposer_rules.specs.Rules as Rules;
-ghost use Rattle.proposer_place.specs.Area.{area_image, read_area};
-ghost use Rattle.proposer_works.specs.Works.{answer_bytes, Worked};
-ghost use Rattle.proposer_area.specs.Held.{Held};
+ghost use Rattle.proposer_area.specs.State.{state, Becomes};
+ghost use Rattle.proposer_works.specs.Works.{answer_bytes, WorkedOn};
 
 use clock::{clock_back, lowest_late};
 use messages::{Address, Answer, ROW, ROWS_AT, Refusal};
+use proposer_area::Area;
 
 // A client and its request's id, as row k of the answer area.
 fn put_row(answer: &mut [u8], k: usize, client: Address, id: u64)
@@ -26,31 +26,31 @@ fn put_row(answer: &mut [u8], k: usize, client: Address, id: u64)
 }
 
 // Drops every request over time, the one with the lowest ballot first; how many they are.
-fn expire(area: &mut [u8], places: usize, t: u64, answer: &mut [u8]) -> usize
-    requires { (Held area.old places) × (length answer.old ≡ answer_bytes places) }
-    ensures { (result ≡ length (late_ones (read_area area.old places) t (read_area area.old places).places)) × (area.new ≡ area_image (moved (read_area area.old places) (read_area area.old places).counter (in_time (read_area area.old places) t (read_area area.old places).places))) × (answer.new ≡ sets answer.old rows_at (rows_bytes (rows_of (late_ones (read_area area.old places) t (read_area area.old places).places)))) }
+fn expire(area: &mut Area<'_>, t: u64, answer: &mut [u8]) -> usize
+    requires { length answer.old ≡ answer_bytes area.old.places }
+    ensures { (result ≡ length (late_ones (state area.old) t (state area.old).places)) × Becomes area.old area.new (moved (state area.old) (state area.old).counter (in_time (state area.old) t (state area.old).places)) × (answer.new ≡ sets answer.old rows_at (rows_bytes (rows_of (late_ones (state area.old) t (state area.old).places)))) }
 {
-    let h = proposer_area::take_header(area);
-    for k in 0..places {
-        let Some(i) = lowest_late(area, places, t, h.timeout) else {
+    let h = area.header();
+    for k in 0..area.places {
+        let Some(i) = lowest_late(area, t, h.timeout) else {
             return k;
         };
         let f = proposer_area::take_place(area, i);
         put_row(answer, k, f.client, f.id);
-        proposer_area::drop_place(area, i);
+        proposer_area::drop_place(area.bytes, i);
     }
-    places
+    area.places
 }
 
-// A tick on an area that is an image.
-pub fn tick(area: &mut [u8], places: usize, t: u64, answer: &mut [u8]) -> Answer
-    requires { (Held area.old places) × (length answer.old ≡ answer_bytes places) }
-    ensures { Worked answer.old (Rules.tick (read_area area.old places) t) result area.new answer.new }
+// A tick.
+pub fn tick(area: &mut Area<'_>, t: u64, answer: &mut [u8]) -> Answer
+    requires { length answer.old ≡ answer_bytes area.old.places }
+    ensures { WorkedOn area.old answer.old (Rules.tick (state area.old) t) result area.new answer.new }
 {
-    if clock_back(area, places, t) {
+    if clock_back(area, t) {
         return Answer::Refused(Refusal::ClockBack);
     }
-    match expire(area, places, t, answer) {
+    match expire(area, t, answer) {
         0 => Answer::Nothing,
         rows => Answer::Timeouts(rows),
     }

@@ -1,8 +1,8 @@
 -- The header's lists: an area with another list is the image of the state with that list, and the start's area comes of zeros so.
 -- Assumes nothing.
-use Rattle.std.specs.Prelude.{◌≡◌, refl, true, ℕ, zero, suc, ◌+◌, ◌*◌, ◌≤◌, leb, length, replicate}
+use Rattle.std.specs.Prelude.{◌≡◌, refl, true, ℕ, zero, suc, ◌+◌, ◌*◌, ◌^◌, ◌≤◌, ◌<◌, leb, length, get_or, replicate}
 use Rattle.std.proofs.Math.Path.{sym, ap}
-use Rattle.std.proofs.Common.{◌∙◌, arith, leb-true}
+use Rattle.std.proofs.Common.{◌∙◌, arith, leb-true, subst}
 use mathlib.Core.List.{List, [], ◌++◌, append_assoc}
 use Rattle.std.proofs.Math.ListN.{set, length-append}
 use Rattle.std.proofs.lemmas.List.{replicate-append-replicate}
@@ -15,9 +15,11 @@ use Rattle.messages.specs.Answers.{entry_bytes}
 use Rattle.proposer_rules.specs.State.{Proposer}
 use Rattle.proposer_rules.specs.Rules.{with_lists, empty_places, start}
 use Rattle.proposer_place.specs.Area.{timeout_at, accept_count_at, propose_count_at, accept_list_at, propose_list_at, header_bytes, place_bytes, area_bytes, list_row, place_image, places_image, header_front, area_image, read_area, sized}
-use Rattle.proposer_place.specs.AreaRows.{length_list}
+use Rattle.proposer_place.specs.AreaRows.{length_list, Entries}
+use Rattle.proposer_place.specs.AreaLaws.{ShortList}
 use Rattle.proposer_area.specs.Turns.{sized_of}
 use Rattle.proposer_area.specs.Held.{Held}
+use Rattle.proposer_area.specs.HeldLaws.{state_held}
 
 -- ---- one list
 
@@ -69,6 +71,31 @@ pub propose_set : (a : List ℕ) (n : ℕ) (l a₁ : List ℕ) → Held a n → 
 propose_set a n l a₁ held fits e =
     e ∙ ap (λ (r : List ℕ). set (sets r propose_list_at (list_row l)) propose_count_at (length l)) held.image
     ∙ propose_stored (read_area a n) l (list_short l fits) held.lawful.accept.short held.lawful.propose.short
+
+-- ---- and stays one that may be held
+
+with_lists_held : (a a₁ : List ℕ) (n : ℕ) (accept propose : List ℕ) → Held a n → ShortList accept → ShortList propose → a₁ ≡ area_image (with_lists (read_area a n) accept propose) → Held a₁ n
+with_lists_held a a₁ n accept propose held h h' e =
+    let size = sized_of a n held.sized in
+    subst (λ (r : List ℕ). Held r n) (sym e)
+    (state_held (with_lists (read_area a n) accept propose) n record {
+      counter_fits = held.lawful.counter_fits;
+      timeout_fits = held.lawful.timeout_fits;
+      accept = h;
+      propose = h';
+      full = held.lawful.full;
+      each = held.lawful.each;
+    } size.least size.most)
+
+pub accept_held : (a : List ℕ) (n : ℕ) (l a₁ : List ℕ) → Held a n → list_fits l ≡ true → ((i : ℕ) → get_or l i 0 < 256 ^ 2) → a₁ ≡ set (sets a accept_list_at (list_row l)) accept_count_at (length l) → Held a₁ n
+unfolding Entries
+accept_held a n l a₁ held fits entries e =
+    with_lists_held a a₁ n l (read_area a n).propose_acceptors held (record { short = list_short l fits; fit = entries }) held.lawful.propose (accept_set a n l a₁ held fits e)
+
+pub propose_held : (a : List ℕ) (n : ℕ) (l a₁ : List ℕ) → Held a n → list_fits l ≡ true → ((i : ℕ) → get_or l i 0 < 256 ^ 2) → a₁ ≡ set (sets a propose_list_at (list_row l)) propose_count_at (length l) → Held a₁ n
+unfolding Entries
+propose_held a n l a₁ held fits entries e =
+    with_lists_held a a₁ n (read_area a n).accept_acceptors l held held.lawful.accept (record { short = list_short l fits; fit = entries }) (propose_set a n l a₁ held fits e)
 
 -- ---- the start
 

@@ -5,11 +5,11 @@ ghost use Rattle.std.specs.Prelude.{◌≡◌, true, ◌+◌, ◌≤◌, ◌<◌
 ghost use Rattle.std.proofs.lemmas.List.Edits.{sets};
 ghost use Rattle.messages.specs.Limits.{list_most, list_fits};
 ghost use Rattle.proposer_rules.specs.Rules.{with_lists, start};
-ghost use Rattle.proposer_place.specs.Area.{list_bytes, list_row, area_image, read_area, sized};
-ghost use Rattle.proposer_area.specs.Held.{Held};
+ghost use Rattle.proposer_place.specs.Area.{list_bytes, list_row, area_image, sized};
+ghost use Rattle.proposer_area.specs.State.{Becomes, state};
 
 use messages::LIST_MOST;
-use proposer_area::{ACCEPT_LIST, PROPOSE_LIST};
+use proposer_area::{ACCEPT_LIST, Area, PROPOSE_LIST};
 
 // A list of the header: where its row begins, and where its count stands.
 #[derive(Clone, Copy)]
@@ -54,19 +54,19 @@ fn put_list(area: &mut [u8], slot: Slot, list: &[u16])
 }
 
 // Another accept list. As one with `set_propose` it would take an enum of the two lists and its matches, for these two lines.
-pub fn set_accept(area: &mut [u8], places: usize, list: &[u16])
-    requires { (Held area.old places) × (list_fits list.now ≡ true) }
-    ensures { area.new ≡ area_image (with_lists (read_area area.old places) list.now (read_area area.old places).propose_acceptors) }
+pub fn set_accept(area: &mut Area<'_>, list: &[u16])
+    requires { list_fits list.now ≡ true }
+    ensures { Becomes area.old area.new (with_lists (state area.old) list.now (state area.old).propose_acceptors) }
 {
-    put_list(area, ACCEPT, list);
+    put_list(area.bytes, ACCEPT, list);
 }
 
 // Another propose list.
-pub fn set_propose(area: &mut [u8], places: usize, list: &[u16])
-    requires { (Held area.old places) × (list_fits list.now ≡ true) }
-    ensures { area.new ≡ area_image (with_lists (read_area area.old places) (read_area area.old places).accept_acceptors list.now) }
+pub fn set_propose(area: &mut Area<'_>, list: &[u16])
+    requires { list_fits list.now ≡ true }
+    ensures { Becomes area.old area.new (with_lists (state area.old) (state area.old).accept_acceptors list.now) }
 {
-    put_list(area, PROPOSE, list);
+    put_list(area.bytes, PROPOSE, list);
 }
 
 // The image of the start.

@@ -40,7 +40,7 @@ pub enum Phase {
     Accept,
 }
 
-// A pending request but for its key, values and lists, of which it has the lengths.
+// A pending request but for its key, values and lists, of which it has the lengths and marks, as bytes 0 to 51 have them.
 #[derive(Clone, Copy)]
 pub struct Front {
     pub phase: Phase,
@@ -132,13 +132,11 @@ impl From<Phase> for u8 {
     }
 }
 
+// Between a byte of this layout and a type of another crate, so no `From`: this and the next, `kind_code` and `mark_code`.
 fn mark_from(byte: u8) -> Option<Lent>
     ensures { result ≡ cond (eqb byte 0) None (Some lent) }
 {
-    match byte {
-        0 => None,
-        _ => Some(Lent),
-    }
+    (byte != 0).then_some(Lent)
 }
 
 // The request without its bytes, from its kind and the marks of its two values.
@@ -250,10 +248,7 @@ fn kind_code(req: Req) -> u8
 fn mark_code(mark: Option<Lent>) -> u8
     ensures { result ≡ mark_code mark }
 {
-    match mark {
-        None => 0,
-        Some(_) => 1,
-    }
+    u8::from(mark.is_some())
 }
 
 // The marks of a request's two values.

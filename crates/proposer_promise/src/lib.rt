@@ -6,20 +6,19 @@ ghost use Rattle.std.specs.Prelude.{Option};
 ghost use Rattle.messages.specs.Message.{Value, given, result_of};
 ghost use Rattle.messages.specs.Limits.{option_fits};
 ghost use Rattle.proposer_rules.specs.Rules.{pending_at, on_promise};
-ghost use Rattle.proposer_place.specs.Area.{read_pending, read_area, may_be_lent};
-ghost use Rattle.proposer_area.specs.Places.{place_in};
-ghost use Rattle.proposer_works.specs.Works.{answer_bytes, Asks, Worked, granting, rejecting};
-ghost use Rattle.proposer_area.specs.Held.{Held};
+ghost use Rattle.proposer_place.specs.Area.{may_be_lent};
+ghost use Rattle.proposer_area.specs.State.{state, pending};
+ghost use Rattle.proposer_works.specs.Works.{answer_bytes, MayAsk, WorkedOn, granting, rejecting};
 
 use messages::{Address, Answer, Ballot, Error, Lent, Refusal};
+use proposer_area::Area;
 use proposer_place::Phase;
 use proposer_rounds::{propose_again, to_accept};
 use proposer_works::{COUNTER_MOST, drop_with, raise_with, short_of};
 
 // An Ok promise from one who is waited for and has not answered.
 fn granted(
-    area: &mut [u8],
-    places: usize,
+    area: &mut Area<'_>,
     i: usize,
     from: Address,
     accepted: Ballot,
@@ -27,52 +26,44 @@ fn granted(
     value: &[u8],
     answer: &mut [u8],
 ) -> Answer
-    requires { (Held area.old places) × (length answer.old ≡ answer_bytes places) × (Asks area.old places i) × (option_fits (given mark value.now) ≡ true) }
-    ensures { Worked answer.old (granting (read_area area.old places) (read_pending (place_in area.old i)) from accepted (given mark value.now)) result area.new answer.new }
+    requires { (length answer.old ≡ answer_bytes area.old.places) × MayAsk area.old i × (option_fits (given mark value.now) ≡ true) }
+    ensures { WorkedOn area.old answer.old (granting (state area.old) (pending area.old i) from accepted (given mark value.now)) result area.new answer.new }
 {
     let f = proposer_area::take_place(area, i);
     if !f.ballot.above(f.promised) {
         return Answer::Refused(Refusal::PromisedAbove);
     }
-    proposer_area::note_promise(area, i, f, from, accepted, mark, value);
+    proposer_area::note_promise(area.bytes, i, f, from, accepted, mark, value);
     if short_of(f.acks_from + 1, f.waiting_for) {
         return Answer::Nothing;
     }
-    to_accept(area, places, i, answer)
+    to_accept(area, i, answer)
 }
 
 // A refused proposal from one who is waited for and has not answered.
-fn rejected(
-    area: &mut [u8],
-    places: usize,
-    i: usize,
-    from: Address,
-    last: Ballot,
-    answer: &mut [u8],
-) -> Answer
-    requires { (Held area.old places) × (length answer.old ≡ answer_bytes places) × (Asks area.old places i) }
-    ensures { (b : Ballot) (v : Option Value) → Worked answer.old (rejecting (read_area area.old places) (read_pending (place_in area.old i)) from last b v) result area.new answer.new }
+fn rejected(area: &mut Area<'_>, i: usize, from: Address, last: Ballot, answer: &mut [u8]) -> Answer
+    requires { (length answer.old ≡ answer_bytes area.old.places) × MayAsk area.old i }
+    ensures { (b : Ballot) (v : Option Value) → WorkedOn area.old answer.old (rejecting (state area.old) (pending area.old i) from last b v) result area.new answer.new }
 {
-    let h = proposer_area::take_header(area);
+    let h = area.header();
     let f = proposer_area::take_place(area, i);
     let counter = h.counter.max(last.0);
     if short_of(f.nacks_from + 1, f.waiting_for) {
-        raise_with(area, places, i, counter, from);
+        raise_with(area, i, counter, from);
         return Answer::Nothing;
     }
     if f.retried {
-        return drop_with(area, places, i, counter, Error::ProposalRejected { last });
+        return drop_with(area, i, counter, Error::ProposalRejected { last });
     }
     if counter == COUNTER_MOST {
         return Answer::Refused(Refusal::CounterUsedUp);
     }
-    propose_again(area, places, i, counter, answer)
+    propose_again(area, i, counter, answer)
 }
 
 // An answer to a proposal, within the limits.
 pub fn promise(
-    area: &mut [u8],
-    places: usize,
+    area: &mut Area<'_>,
     from: Address,
     ballot: Ballot,
     accepted: Ballot,
@@ -81,10 +72,10 @@ pub fn promise(
     res: Result<(), Error>,
     answer: &mut [u8],
 ) -> Answer
-    requires { (Held area.old places) × (length answer.old ≡ answer_bytes places) × (may_be_lent (read_area area.old places) ≡ true) × (option_fits (given mark value.now) ≡ true) }
-    ensures { (w : List ℕ) → Worked answer.old (on_promise (read_area area.old places) (pending_at ballot (read_area area.old places).places) from accepted (given mark value.now) (result_of res w)) result area.new answer.new }
+    requires { (length answer.old ≡ answer_bytes area.old.places) × (may_be_lent (state area.old) ≡ true) × (option_fits (given mark value.now) ≡ true) }
+    ensures { (w : List ℕ) → WorkedOn area.old answer.old (on_promise (state area.old) (pending_at ballot (state area.old).places) from accepted (given mark value.now) (result_of res w)) result area.new answer.new }
 {
-    let Some(i) = proposer_area::find(area, places, ballot) else {
+    let Some(i) = proposer_area::find(area, ballot) else {
         return Answer::Nothing;
     };
     let f = proposer_area::take_place(area, i);
@@ -98,9 +89,9 @@ pub fn promise(
         return Answer::Refused(Refusal::NotWaitedFor);
     }
     match res {
-        Ok(_) => granted(area, places, i, from, accepted, mark, value, answer),
+        Ok(_) => granted(area, i, from, accepted, mark, value, answer),
         Err(e) => match e {
-            Error::ProposalRejected { last } => rejected(area, places, i, from, last, answer),
+            Error::ProposalRejected { last } => rejected(area, i, from, last, answer),
             Error::AcceptRejected { .. } | Error::CasFailed(_) | Error::Timeout => {
                 Answer::Refused(Refusal::ForeignError)
             }

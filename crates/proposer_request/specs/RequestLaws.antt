@@ -38,7 +38,7 @@ use Rattle.proposer_area.specs.declared.Header.{Header}
 use Rattle.proposer_area.specs.Places.{place_at, header_in, free_of}
 use Rattle.proposer_area.specs.PlacesLaws.{free_some, free_none}
 use Rattle.proposer_area.specs.Held.{Held}
-use Rattle.proposer_area.specs.HeldLaws.{with_both, propose_count, propose_list_lem}
+use Rattle.proposer_area.specs.HeldLaws.{with_both, propose_count, propose_list_lem, place_held}
 use Rattle.proposer_works.specs.Works.{answer_bytes, Worked}
 use Rattle.proposer_works.specs.WorksLaws.{refused_work, due_none}
 use Rattle.proposer_works.specs.Sent.{sent_in, broadcast_of, sent_written, sent_answer, sent_list}
@@ -154,6 +154,16 @@ module _ (a w : List ℕ) (n : ℕ) (h : Header) (from : Address) (at id : ℕ) 
   unfolding Bytes
   lawful_here hk hv ho hf hi ha hc =
       lawful_new from id rq (next_ballot s.counter) s.propose_acceptors at false hf hi (lawful_request from id req key value other limits hk hv ho) hc held.lawful.propose ha
+
+  -- the area with the place taken may be held
+  pub request_held : (i : ℕ) (first second : List ℕ) (f : Front) (w₁ a₁ : List ℕ) → ((j : ℕ) → byte key j < 256) → ((j : ℕ) → byte value j < 256) → ((j : ℕ) → byte other j < 256) → from.0 < 2 ^ 16 → id < 2 ^ 64 → at < 2 ^ 64 → h.counter < 2 ^ 64 → (h.counter ≡ 18446744073709551615 → ⊥) → i < n → first ≡ bytes_of (first_value rq) → second ≡ bytes_of (second_value rq) → f ≡ record { phase = Code.Phase.Propose; retried = false; req = req; key_len = length key; first_len = length first; second_len = length second; mark = None; value_len = 0; client = from; id = id; ballot = record { 0 = h.counter + 1 }; promised = record { 0 = 0 }; received_at = at; waiting_for = h.propose; acks_from = 0; nacks_from = 0 } → w₁ ≡ sent_in w [] key list → a₁ ≡ sets a (place_at i) (place_rows (front_bytes f) (take (320 + 2 * h.propose - 320) (drop 320 w₁)) [] [] key (first ++ second) []) → Held a₁ n
+  unfolding front_of
+  request_held i first second f w₁ a₁ hk hv ho hf hi ha most ne within e1 e2 ef ew ea₁ =
+      let lawful : Lawful pending = lawful_here hk hv ho hf hi ha (omega (arith, most, ne, counter_here)) in
+      let front : f ≡ front_of pending = rw (ef, e1, e2, propose_here, counter_here, request_rpc_lem req key value other, request_key req key value other) in
+      let image : place_rows (front_bytes f) (take (320 + 2 * h.propose - 320) (drop 320 w₁)) [] [] key (first ++ second) [] ≡ place_image (Some pending) =
+      new_image f pending _ key (first ++ second) front (ap (λ (u : List ℕ). take (320 + 2 * h.propose - 320) (drop 320 u)) ew ∙ waited_here) refl refl (sym (request_key req key value other)) (rw (e1, e2)) refl in
+      place_held a n i (Some pending) a₁ held within lawful (ea₁ ∙ ap (λ (u : List ℕ). sets a (place_at i) u) image)
 
   pub request_taken : (i : ℕ) (first second : List ℕ) (f : Front) (w₁ a₁ a₂ : List ℕ) (r : Answer) → ((j : ℕ) → byte key j < 256) → ((j : ℕ) → byte value j < 256) → ((j : ℕ) → byte other j < 256) → from.0 < 2 ^ 16 → id < 2 ^ 64 → at < 2 ^ 64 → h.counter < 2 ^ 64 → (h.counter ≡ 18446744073709551615 → ⊥) → i ≡ free_of (read_places a header_bytes n) → i ≤ n → (i ≡ n → ⊥) → first ≡ bytes_of (first_value rq) → second ≡ bytes_of (second_value rq) → f ≡ record { phase = Code.Phase.Propose; retried = false; req = req; key_len = length key; first_len = length first; second_len = length second; mark = None; value_len = 0; client = from; id = id; ballot = record { 0 = h.counter + 1 }; promised = record { 0 = 0 }; received_at = at; waiting_for = h.propose; acks_from = 0; nacks_from = 0 } → w₁ ≡ sent_in w [] key list → a₁ ≡ sets a (place_at i) (place_rows (front_bytes f) (take (320 + 2 * h.propose - 320) (drop 320 w₁)) [] [] key (first ++ second) []) → a₂ ≡ sets a₁ counter_at (to_le 8 (h.counter + 1)) → r ≡ cond (eqb h.propose 0) Answer.Nothing (Answer.Broadcast (Rpc.ProposeReq (record { 0 = h.counter + 1 })) h.propose (length key) 0) → Worked w (on_request s from at id rq) r a₂ w₁
   unfolding read_area front_of

@@ -6,12 +6,12 @@ ghost use Rattle.messages.specs.Message.{Message, request_of};
 ghost use Rattle.messages.specs.Limits.{within_limits};
 ghost use Rattle.messages.specs.Answers.{bytes_of};
 ghost use Rattle.proposer_rules.specs.Rules.{on_request};
-ghost use Rattle.proposer_place.specs.Area.{first_value, second_value, read_area};
-ghost use Rattle.proposer_works.specs.Works.{answer_bytes, Worked};
-ghost use Rattle.proposer_area.specs.Held.{Held};
+ghost use Rattle.proposer_place.specs.Area.{first_value, second_value};
+ghost use Rattle.proposer_area.specs.State.{state};
+ghost use Rattle.proposer_works.specs.Works.{answer_bytes, WorkedOn};
 
 use messages::{Address, Answer, Ballot, ENTRIES_AT, Lent, Refusal, Req, Rpc};
-use proposer_area::PROPOSE_LIST;
+use proposer_area::{Area, PROPOSE_LIST};
 use proposer_place::{Front, Phase};
 use proposer_works::{COUNTER_MOST, broadcast, send};
 
@@ -38,8 +38,7 @@ fn second_value(req: Req, other: &[u8]) -> &[u8]
 
 // A request that is within the limits.
 pub fn request(
-    area: &mut [u8],
-    places: usize,
+    area: &mut Area<'_>,
     from: Address,
     at: u64,
     id: u64,
@@ -49,18 +48,18 @@ pub fn request(
     other: &[u8],
     answer: &mut [u8],
 ) -> Answer
-    requires { (Held area.old places) × (length answer.old ≡ answer_bytes places) × (within_limits from (Message.ClientRequest id (request_of req key.now value.now other.now)) ≡ true) }
-    ensures { Worked answer.old (on_request (read_area area.old places) from at id (request_of req key.now value.now other.now)) result area.new answer.new }
+    requires { (length answer.old ≡ answer_bytes area.old.places) × (within_limits from (Message.ClientRequest id (request_of req key.now value.now other.now)) ≡ true) }
+    ensures { WorkedOn area.old answer.old (on_request (state area.old) from at id (request_of req key.now value.now other.now)) result area.new answer.new }
 {
-    let h = proposer_area::take_header(area);
+    let h = area.header();
     if h.counter == COUNTER_MOST {
         return Answer::Refused(Refusal::CounterUsedUp);
     }
-    let Some(i) = proposer_area::lowest_free(area, places) else {
+    let Some(i) = proposer_area::lowest_free(area) else {
         return Answer::Refused(Refusal::NoRoom);
     };
     let list = PROPOSE_LIST + 2 * h.propose;
-    send(answer, &[], key, &area[PROPOSE_LIST..list]);
+    send(answer, &[], key, &area.bytes()[PROPOSE_LIST..list]);
     let ballot = Ballot(h.counter + 1);
     let first = first_value(req, value);
     let second = second_value(req, other);
@@ -83,7 +82,15 @@ pub fn request(
         nacks_from: 0,
     };
     let entries = ENTRIES_AT + 2 * h.propose;
-    proposer_area::fill_place(area, i, f, &answer[ENTRIES_AT..entries], key, first, second);
-    proposer_area::put_counter(area, h.counter + 1);
+    proposer_area::fill_place(
+        area.bytes,
+        i,
+        f,
+        &answer[ENTRIES_AT..entries],
+        key,
+        first,
+        second,
+    );
+    proposer_area::put_counter(area.bytes, h.counter + 1);
     broadcast(Rpc::ProposeReq(ballot), h.propose, key.len(), 0)
 }

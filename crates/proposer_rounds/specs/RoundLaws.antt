@@ -26,7 +26,7 @@ use Rattle.proposer_place.specs.PlaceLaws.{lawful_second, lawful_again}
 use Rattle.proposer_area.specs.declared.Header.{Header}
 use Rattle.proposer_area.specs.Places.{place_at, place_in, header_in}
 use Rattle.proposer_area.specs.Held.{Held, Pends}
-use Rattle.proposer_area.specs.HeldLaws.{with_place, with_both, lawful_pending, accept_count, accept_list_lem, propose_count, propose_list_lem, entries_back}
+use Rattle.proposer_area.specs.HeldLaws.{with_place, with_both, lawful_pending, accept_count, accept_list_lem, propose_count, propose_list_lem, entries_back, place_held}
 use Rattle.proposer_works.specs.Works.{answer_bytes, Worked, accepting, retrying}
 use Rattle.proposer_works.specs.Sent.{sent_in, broadcast_of, sent_written, sent_answer, sent_list}
 use Rattle.proposer_works.specs.Lent as Lent
@@ -96,6 +96,15 @@ module _ (a : List ℕ) (n i : ℕ) (f : Front) (held : Held a n) (pends : Pends
             ∙ sent_written w s.accept_acceptors asking;
       }
 
+  -- the area with the second phase may be held
+  pub second_held : (req : Req) (mark : Option Lent) (w₁ a₁ : List ℕ) → req ≡ f.req → mark ≡ f.mark → w₁ ≡ sent_in w (bytes_of (applied (request_in req values f.first_len) (given mark promised)).value) key accept_list → a₁ ≡ sets a (place_at i) (place_image (Some (second_phase (entries (take (320 + 2 * h.accept - 320) (drop 320 w₁)) 0 h.accept) p))) → Held a₁ n
+  second_held req mark w₁ a₁ ereq emark ew ea =
+      let waited : entries (take (320 + 2 * h.accept - 320) (drop 320 w₁)) 0 h.accept ≡ s.accept_acceptors =
+      ap (λ (u : List ℕ). entries (take (320 + 2 * h.accept - 320) (drop 320 u)) 0 h.accept) ew
+      ∙ accept_waited (bytes_of (applied (request_in req values f.first_len) (given mark promised)).value) key in
+      place_held a n i (Some (second_phase s.accept_acceptors p)) a₁ held pends.within (lawful_second p lawful s.accept_acceptors held.lawful.accept)
+      (ea ∙ ap (λ (l : List ℕ). sets a (place_at i) (place_image (Some (second_phase l p)))) waited)
+
   -- ---- the request anew
 
   abbrev propose_list : List ℕ
@@ -137,3 +146,12 @@ module _ (a : List ℕ) (n i : ℕ) (f : Front) (held : Held a n) (pends : Pends
             ∙ ap (λ (u : List ℕ). sent_in w [] (key_of p.req) u) propose_list_here
             ∙ sent_written w s.propose_acceptors asking;
       }
+
+  -- the area with the request anew may be held
+  pub again_held : (counter : ℕ) (w₁ a₁ : List ℕ) → counter < 2 ^ 64 - 1 → w₁ ≡ sent_in w [] key propose_list → a₁ ≡ sets a (place_at i) (place_image (Some (asked_again (record { 0 = counter + 1 }) (entries (take (320 + 2 * h.propose - 320) (drop 320 w₁)) 0 h.propose) p))) → Held a₁ n
+  again_held counter w₁ a₁ most ew ea =
+      let waited : entries (take (320 + 2 * h.propose - 320) (drop 320 w₁)) 0 h.propose ≡ s.propose_acceptors =
+      ap (λ (u : List ℕ). entries (take (320 + 2 * h.propose - 320) (drop 320 u)) 0 h.propose) ew ∙ propose_waited key in
+      place_held a n i (Some (asked_again (next_ballot counter) s.propose_acceptors p)) a₁ held pends.within
+      (lawful_again p lawful (next_ballot counter) s.propose_acceptors (omega (arith, most)) held.lawful.propose)
+      (ea ∙ ap (λ (l : List ℕ). sets a (place_at i) (place_image (Some (asked_again (next_ballot counter) l p)))) waited)

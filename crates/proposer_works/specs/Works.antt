@@ -14,6 +14,7 @@ use Rattle.proposer_rules.specs.State.{Pending, Proposer, key_of, asked_again}
 use Rattle.proposer_rules.specs.Rules.{Outcome, outcome, unless, moved, next_ballot, proposals, to_each, to_client, to_accept, applied, reply_of, replace_at, promise_above, no_ballot, promise_work}
 use Rattle.proposer_place.specs.Area.{area_image, read_area, read_pending}
 use Rattle.proposer_area.specs.Places.{place_in}
+use Rattle.proposer_area.specs.declared.area.Area.{Area}
 use Rattle.proposer_area.specs.Held.{Pends}
 
 -- ---- where a work begins
@@ -29,6 +30,10 @@ pub record Asks (a : List ℕ) (n i : ℕ) : Type 0 where
   pub more_yeses : length (read_pending (place_in a i)).acks_from < list_most
   pub more_noes : length (read_pending (place_in a i)).nacks_from < list_most
 
+-- the same of an area
+abbrev pub MayAsk : Area → ℕ → Type 0
+MayAsk a i = Asks a.bytes.now a.places i
+
 -- ---- what it does
 
 -- the enum, every byte of the area, and every byte of the answer area
@@ -36,6 +41,12 @@ pub record Worked (w : List ℕ) (o : Outcome) (r : Answer) (a' w' : List ℕ) :
   pub answer : r ≡ answer_of o.told
   pub area : a' ≡ area_image o.state
   pub written : w' ≡ written_in w o.told
+
+-- the same on an area, which stays the one that was lent
+pub record WorkedOn (a : Area) (w : List ℕ) (o : Outcome) (r : Answer) (a' : Area) (w' : List ℕ) : Type 0 where
+  pub worked : Worked w o r a'.bytes.now w'
+  pub lent : a'.bytes.ghost_name ≡ a.bytes.ghost_name
+  pub places : a'.places ≡ a.places
 
 -- the state with another counter and other content of place i
 abbrev pub placed : Proposer → ℕ → ℕ → Option Pending → Proposer

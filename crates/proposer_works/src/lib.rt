@@ -10,13 +10,13 @@ ghost use Rattle.messages.specs.Limits.{key_most, value_most};
 ghost use Rattle.messages.specs.Answers.{key_at, entries_at, rows_at, answer_of};
 ghost use Rattle.proposer_rules.specs.State.{with_no};
 ghost use Rattle.proposer_rules.specs.Rules.{majority_of, to_client};
-ghost use Rattle.proposer_place.specs.Area.{list_bytes, area_image, read_pending, read_area};
-ghost use Rattle.proposer_area.specs.Places.{place_in};
-ghost use Rattle.proposer_area.specs.Held.{Held, Pends};
-ghost use Rattle.proposer_works.specs.Works.{Asks, placed};
+ghost use Rattle.proposer_place.specs.Area.{list_bytes};
+ghost use Rattle.proposer_area.specs.State.{state, pending, HasPending, Becomes};
+ghost use Rattle.proposer_works.specs.Works.{MayAsk, placed};
 
 pub use messages::{ENTRIES_AT, KEY_AT, ROW, ROWS_AT};
 use messages::{Address, Answer, Error, Rpc};
+use proposer_area::Area;
 
 // The largest counter: no ballot is above it.
 pub const COUNTER_MOST: u64 = u64::MAX;
@@ -57,13 +57,13 @@ pub fn short_of(answers: usize, n: usize) -> bool
 }
 
 // The request at place i dropped, its client told an error, and the counter raised.
-pub fn drop_with(area: &mut [u8], places: usize, i: usize, counter: u64, error: Error) -> Answer
-    requires { (Held area.old places) × (Pends area.old places i) }
-    ensures { (result ≡ answer_of (to_client (read_pending (place_in area.old i)) (Reply.Failed (failure_of error [])))) × (area.new ≡ area_image (placed (read_area area.old places) counter i None)) }
+pub fn drop_with(area: &mut Area<'_>, i: usize, counter: u64, error: Error) -> Answer
+    requires { HasPending area.old i }
+    ensures { (result ≡ answer_of (to_client (pending area.old i) (Reply.Failed (failure_of error [])))) × Becomes area.old area.new (placed (state area.old) counter i None) }
 {
     let f = proposer_area::take_place(area, i);
-    proposer_area::drop_place(area, i);
-    proposer_area::put_counter(area, counter);
+    proposer_area::drop_place(area.bytes, i);
+    proposer_area::put_counter(area.bytes, counter);
     Answer::Message {
         to: f.client,
         rpc: Rpc::ClientResponse(f.id, Err(error)),
@@ -72,10 +72,10 @@ pub fn drop_with(area: &mut [u8], places: usize, i: usize, counter: u64, error: 
 }
 
 // One more no at place i, and the counter raised.
-pub fn raise_with(area: &mut [u8], places: usize, i: usize, counter: u64, from: Address)
-    requires { (Held area.old places) × (Asks area.old places i) }
-    ensures { area.new ≡ area_image (placed (read_area area.old places) counter i (Some (with_no (read_pending (place_in area.old i)) from))) }
+pub fn raise_with(area: &mut Area<'_>, i: usize, counter: u64, from: Address)
+    requires { MayAsk area.old i }
+    ensures { Becomes area.old area.new (placed (state area.old) counter i (Some (with_no (pending area.old i) from))) }
 {
-    proposer_area::note_no(area, i, from);
-    proposer_area::put_counter(area, counter);
+    proposer_area::note_no(area.bytes, i, from);
+    proposer_area::put_counter(area.bytes, counter);
 }

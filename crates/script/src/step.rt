@@ -32,6 +32,7 @@ pub enum Step {
     Area,
     Tick(u64),
     Message(Address, Rpc),
+    // a step and no None, since a run answers it with a line of its own
     Unreadable,
 }
 

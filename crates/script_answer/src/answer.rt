@@ -38,7 +38,7 @@ fn part(area: &[u8], at: usize, n: usize) -> &[u8]
     &rest[..n.min(rest.len())]
 }
 
-// A refusal's name.
+// A refusal's name. No `Display`: it goes into an `Output`, whose clause says which bytes stand there.
 fn name(refusal: Refusal) -> &'static [u8]
     ensures { result.now ≡ name_text refusal }
 {

@@ -7,7 +7,7 @@ ghost use Rattle.script_input.specs.Shown.{Shows};
 use std::io::Read;
 
 // The line from `from` to `end`; what was read reaches to `to`. Where `end` is `to` the line has no line end: it is the input's last, or
-// longer than the buffer.
+// longer than the buffer; its bytes are taken either way, so `end` is no Option.
 #[derive(Clone, Copy)]
 pub struct Window {
     pub from: usize,

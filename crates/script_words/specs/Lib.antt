@@ -5,3 +5,4 @@ pub mod Tests
 pub mod Text
 pub mod Written
 pub mod WrittenLaws
+pub mod LentLaws

@@ -26,6 +26,7 @@ pub fn read_list(word: &[u8], out: &mut [u16]) -> usize
     ensures { (result ≡ behind out.old 0 (length (list_of word.now))) × (out.new ≡ sets out.old 0 (list_of word.now)) }
 {
     let room = out.len().min(LIST_ROOM);
+    // `n` is the answer
     let mut n = 0;
     for entry in word.split(|b| *b == b',').take(room) {
         let Some(a) = read_address(entry) else {

@@ -6,7 +6,7 @@ ghost use Rattle.script_words.specs.Split.{word_at, Split};
 // The most words that a line has: `FROM ProposeRes BALLOT BALLOT OPT Err ERROR BALLOT`.
 pub const WORDS_MOST: usize = 8;
 
-// The first `n` are a line's words, and the others are empty.
+// The first `n` are a line's words, and the others are empty: fixed memory, so an array with a count.
 #[derive(Clone, Copy)]
 pub struct Words<'a> {
     pub n: usize,
@@ -31,7 +31,7 @@ impl<'a> Words<'a> {
     }
 }
 
-// The first place of a byte at `from` or behind it; the length where there is none.
+// The first place of a byte at `from` or behind it; the length where there is none, since callers take what stands before it either way.
 pub fn place_of(s: &[u8], from: usize, b: u8) -> usize
     requires { from ≤ length s.now }
     ensures { (result ≡ from + up_to b (drop from s.now)) × (from ≤ result) × (result ≤ length s.now) }
@@ -47,6 +47,7 @@ pub fn split(line: &[u8]) -> Words<'_>
     ensures { Split line.now result }
 {
     let mut words: [&[u8]; WORDS_MOST] = [b""; WORDS_MOST];
+    // `n` is part of the answer
     let mut n = 0;
     for word in line.split(|b| *b == b' ') {
         if word.is_empty() || n == WORDS_MOST {

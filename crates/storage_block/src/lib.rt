@@ -83,7 +83,7 @@ pub fn accepted_ballot(b: &[u8; BLOCK]) -> Ballot
 pub fn value_mark(b: &[u8; BLOCK]) -> Option<Lent>
     ensures { result ≡ marked (register_of b.now).value }
 {
-    if b[2] == 0 { None } else { Some(Lent) }
+    (b[2] != 0).then_some(Lent)
 }
 
 // The value's bytes, as a part of the block; none for no value.

@@ -1,4 +1,5 @@
-// The table: as many blocks of 512 bytes as it has registers. Where a key's block is, or the block that a new key takes.
+// The table: as many blocks of 512 bytes as it has registers. Where a key's block is, or the block that a new key takes. The table and its
+// registers go on side by side, as the public operations are lent them and refuse them (refusal 1).
 #![tactic(auto)]
 
 ghost use Rattle.std.specs.Prelude.{◌≡◌, true, ◌-◌, ◌≤◌, length};

@@ -10,7 +10,7 @@ ghost use Rattle.storage_block.specs.Block.{mark_byte, front, sealed, image, reg
 use messages::{Ballot, Lent};
 use storage_block::BLOCK;
 
-// What is to be stored of a register: its value's bytes are lent beside the mark.
+// What is to be stored of a register: its value's bytes are lent beside the mark, as those of a message are (01, 'bytes beside them').
 #[derive(Clone, Copy)]
 pub struct Register<'a> {
     pub key: &'a [u8],
@@ -20,13 +20,11 @@ pub struct Register<'a> {
     pub bytes: &'a [u8],
 }
 
+// A byte of this layout for a type of another crate, so no `From`.
 fn mark_byte(value: Option<Lent>) -> u8
     ensures { result ≡ mark_byte value }
 {
-    match value {
-        None => 0,
-        Some(_) => 1,
-    }
+    u8::from(value.is_some())
 }
 
 // Bytes 0 to 23 of a block that is zero so far: a slice, since a part of the block as an array would come out of an Option.

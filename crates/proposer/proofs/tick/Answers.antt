@@ -1,7 +1,8 @@
 -- `proposer::tick` meets its contract: what is due to the lent areas is refused, and the rest is the work's.
 -- Assumes nothing.
 use Rattle.leaf_fields.specs.Fields.{Bytes}
-use Rattle.proposer.specs.ReceiveLaws.{tick_refused, lent, lent_held, ticked}
+use Rattle.proposer.specs.ReceiveLaws.{tick_refused, lent, lent_held, ticked, left_behind}
+use borrow.Author.Rules.{rules}
 use Rattle.proposer.proofs.tick.Goals as goal
 use Rattle.proposer.proofs.tick.Goals.{After-slice_known-1}
 
@@ -13,10 +14,14 @@ area_bytes c = λ i. (c.type_inv.area i).fits
 pub returns-in-Some : goal.returns-in-Some
 returns-in-Some c = tick_refused _ _ _ _ c.refused.ensures _ _ c.in-Some.is
 
+pub invariant_of-area : goal.invariant_of-area
+invariant_of-area c =
+    record { held = lent_held _ _ _ _ c.refused.ensures (area_bytes (goal.at.invariant_of-area c).After-slice_known-1) c.in_default.is }
+
 pub tick-requires : goal.tick-requires
-tick-requires c =
-    let due = lent _ _ _ _ c.refused.ensures c.in_default.is in
-    (lent_held _ _ _ _ c.refused.ensures (area_bytes (goal.at.tick-requires c).After-slice_known-1) c.in_default.is, due.1)
+tick-requires c = (lent _ _ _ _ c.refused.ensures c.in_default.is).1
 
 pub returns : goal.returns
-returns c = ticked _ _ _ _ c.refused.ensures c.in_default.is (lent_held _ _ _ _ c.refused.ensures (area_bytes (goal.at.returns c).After-slice_known-1) c.in_default.is) _ _ _ _ c.tick.ensures
+returns c =
+    let done = ticked _ _ _ _ c.refused.ensures c.in_default.is (lent_held _ _ _ _ c.refused.ensures (area_bytes (goal.at.returns c).After-slice_known-1) c.in_default.is) _ _ _ _ c.tick.ensures.worked in
+    left_behind _ _ _ _ _ _ _ _ _ (search rules) c.tick.ensures.lent done

@@ -69,57 +69,57 @@ told c kind = let args = c.args in message_of kind args.message.key.now args.mes
 limits_at : (c : Else-not-fits) (kind : Rpc) → c.args.message.rpc ≡ kind → within_limits c.args.from (told c kind) ≡ true
 limits_at c kind e =
     let args = c.args in
-    within args.area.now args.answer.now args.places args.from args.at args.message.rpc kind args.message.key.now args.message.value.now args.message.other.now args.message.list.now c.fits.result c.requires.0 c.fits.ensures e c.if-not-fits.false
+    within args.area.now.bytes.now args.answer.now args.area.now.places args.from args.at args.message.rpc kind args.message.key.now args.message.value.now args.message.other.now args.message.list.now c.fits.result c.args.area.now.held c.fits.ensures e c.if-not-fits.false
 
-wrong_at : (c : Else-not-fits) (kind : Rpc) → c.args.message.rpc ≡ kind → foreign (told c kind) ≡ true → let args = c.args in Worked args.answer.now (Rules.receive (read_area args.area.now args.places) args.from args.at (told c args.message.rpc)) (Answer.Refused Refusal.WrongKind) args.area.now args.answer.now
+wrong_at : (c : Else-not-fits) (kind : Rpc) → c.args.message.rpc ≡ kind → foreign (told c kind) ≡ true → let args = c.args in Worked args.answer.now (Rules.receive (read_area args.area.now.bytes.now args.area.now.places) args.from args.at (told c args.message.rpc)) (Answer.Refused Refusal.WrongKind) args.area.now.bytes.now args.answer.now
 wrong_at c kind e strange =
     let args = c.args in
-    wrong_kind args.area.now args.answer.now args.places args.from args.at args.message.rpc kind args.message.key.now args.message.value.now args.message.other.now args.message.list.now c.fits.result c.requires.0 c.fits.ensures e strange
+    wrong_kind args.area.now.bytes.now args.answer.now args.area.now.places args.from args.at args.message.rpc kind args.message.key.now args.message.value.now args.message.other.now args.message.list.now c.fits.result c.args.area.now.held c.fits.ensures e strange
 
-handed_at : (c : Else-not-fits) (kind : Rpc) (r : Answer) (a' w' : List ℕ) → c.args.message.rpc ≡ kind → foreign (told c kind) ≡ false → let args = c.args in Worked args.answer.now (Rules.work (read_area args.area.now args.places) args.from args.at (told c kind)) r a' w' → Worked args.answer.now (Rules.receive (read_area args.area.now args.places) args.from args.at (told c args.message.rpc)) r a' w'
+handed_at : (c : Else-not-fits) (kind : Rpc) (r : Answer) (a' w' : List ℕ) → c.args.message.rpc ≡ kind → foreign (told c kind) ≡ false → let args = c.args in Worked args.answer.now (Rules.work (read_area args.area.now.bytes.now args.area.now.places) args.from args.at (told c kind)) r a' w' → Worked args.answer.now (Rules.receive (read_area args.area.now.bytes.now args.area.now.places) args.from args.at (told c args.message.rpc)) r a' w'
 handed_at c kind r a' w' e own h =
     let args = c.args in
-    handed_on args.area.now args.answer.now args.places args.from args.at args.message.rpc kind args.message.key.now args.message.value.now args.message.other.now args.message.list.now c.fits.result c.requires.0 c.fits.ensures e r a' w' c.if-not-fits.false own h
+    handed_on args.area.now.bytes.now args.answer.now args.area.now.places args.from args.at args.message.rpc kind args.message.key.now args.message.value.now args.message.other.now args.message.list.now c.fits.result c.args.area.now.held c.fits.ensures e r a' w' c.if-not-fits.false own h
 
 pub returns-then-not-fits : goal.returns-then-not-fits
 returns-then-not-fits c =
     let args = c.args in
-    Laws.beyond_limits args.area.now args.answer.now args.places args.from args.at (message_of args.message.rpc args.message.key.now args.message.value.now args.message.other.now args.message.list.now) c.requires.0 c.fits.result _ (c.over_limit.ensures args.message.key.now args.message.value.now args.message.other.now args.message.list.now) c.fits.ensures c.if-not-fits.true
+    record { worked = Laws.beyond_limits args.area.now.bytes.now args.answer.now args.area.now.places args.from args.at (message_of args.message.rpc args.message.key.now args.message.value.now args.message.other.now args.message.list.now) c.args.area.now.held c.fits.result _ (c.over_limit.ensures args.message.key.now args.message.value.now args.message.other.now args.message.list.now) c.fits.ensures c.if-not-fits.true; lent = refl; places = refl }
 
 pub set_accept-requires : goal.set_accept-requires
 set_accept-requires c =
-    (c.requires.0, accept_fits _ _ (limits_at (goal.at.set_accept-requires c).Else-not-fits _ c.in-SetAcceptAcceptors.is))
+    accept_fits _ _ (limits_at (goal.at.set_accept-requires c).Else-not-fits _ c.in-SetAcceptAcceptors.is)
 
 pub set_propose-requires : goal.set_propose-requires
 set_propose-requires c =
-    (c.requires.0, propose_fits _ _ (limits_at (goal.at.set_propose-requires c).Else-not-fits _ c.in-SetProposeAcceptors.is))
+    propose_fits _ _ (limits_at (goal.at.set_propose-requires c).Else-not-fits _ c.in-SetProposeAcceptors.is)
 
 pub promise-requires : goal.promise-requires
 promise-requires c =
-    (c.requires.0, c.requires.1, c.requires.2, value_fits _ _ _ _ _ (limits_at (goal.at.promise-requires c).Else-not-fits _ c.in-ProposeRes.is))
+    (c.requires.0, c.requires.1, value_fits _ _ _ _ _ (limits_at (goal.at.promise-requires c).Else-not-fits _ c.in-ProposeRes.is))
 
 pub returns-in-ClientRequest : goal.returns-in-ClientRequest
-returns-in-ClientRequest c = handed_at (goal.at.returns-in-ClientRequest c).Else-not-fits _ _ _ _ c.in-ClientRequest.is refl c.request.ensures
+returns-in-ClientRequest c = record { worked = handed_at (goal.at.returns-in-ClientRequest c).Else-not-fits _ _ _ _ c.in-ClientRequest.is refl c.request.ensures.worked; lent = c.request.ensures.lent; places = c.request.ensures.places }
 
 pub returns-in-ClientResponse : goal.returns-in-ClientResponse
 returns-in-ClientResponse c =
     let here = (goal.at.returns-in-ClientResponse c).Else-not-fits in
     elim c.in-ClientResponse.is [
-      | inl h ↦ wrong_at here _ h.2 refl
+      | inl h ↦ record { worked = wrong_at here _ h.2 refl; lent = refl; places = refl }
       | inr k ↦ elim k [
-        | inl h ↦ wrong_at here _ h.1 refl
-        | inr h ↦ wrong_at here _ h.2 refl
+        | inl h ↦ record { worked = wrong_at here _ h.1 refl; lent = refl; places = refl }
+        | inr h ↦ record { worked = wrong_at here _ h.2 refl; lent = refl; places = refl }
       ]
     ]
 
 pub returns-in-SetAcceptAcceptors : goal.returns-in-SetAcceptAcceptors
-returns-in-SetAcceptAcceptors c = handed_at (goal.at.returns-in-SetAcceptAcceptors c).Else-not-fits _ _ _ _ c.in-SetAcceptAcceptors.is refl (list_set _ _ _ c.set_accept.ensures)
+returns-in-SetAcceptAcceptors c = record { worked = handed_at (goal.at.returns-in-SetAcceptAcceptors c).Else-not-fits _ _ _ _ c.in-SetAcceptAcceptors.is refl (list_set _ _ _ c.set_accept.ensures.image); lent = c.set_accept.ensures.lent; places = c.set_accept.ensures.places }
 
 pub returns-in-SetProposeAcceptors : goal.returns-in-SetProposeAcceptors
-returns-in-SetProposeAcceptors c = handed_at (goal.at.returns-in-SetProposeAcceptors c).Else-not-fits _ _ _ _ c.in-SetProposeAcceptors.is refl (list_set _ _ _ c.set_propose.ensures)
+returns-in-SetProposeAcceptors c = record { worked = handed_at (goal.at.returns-in-SetProposeAcceptors c).Else-not-fits _ _ _ _ c.in-SetProposeAcceptors.is refl (list_set _ _ _ c.set_propose.ensures.image); lent = c.set_propose.ensures.lent; places = c.set_propose.ensures.places }
 
 pub returns-in-ProposeRes : goal.returns-in-ProposeRes
-returns-in-ProposeRes c = handed_at (goal.at.returns-in-ProposeRes c).Else-not-fits _ _ _ _ c.in-ProposeRes.is refl (c.promise.ensures c.args.message.other.now)
+returns-in-ProposeRes c = record { worked = handed_at (goal.at.returns-in-ProposeRes c).Else-not-fits _ _ _ _ c.in-ProposeRes.is refl (c.promise.ensures c.args.message.other.now).worked; lent = (c.promise.ensures c.args.message.other.now).lent; places = (c.promise.ensures c.args.message.other.now).places }
 
 pub returns-in-AcceptRes : goal.returns-in-AcceptRes
-returns-in-AcceptRes c = handed_at (goal.at.returns-in-AcceptRes c).Else-not-fits _ _ _ _ c.in-AcceptRes.is refl (c.acceptance.ensures c.args.message.other.now)
+returns-in-AcceptRes c = record { worked = handed_at (goal.at.returns-in-AcceptRes c).Else-not-fits _ _ _ _ c.in-AcceptRes.is refl (c.acceptance.ensures c.args.message.other.now).worked; lent = (c.acceptance.ensures c.args.message.other.now).lent; places = (c.acceptance.ensures c.args.message.other.now).places }

@@ -1,6 +1,6 @@
 -- `proposer_clock::expire` meets its contract. The loop's invariant: what is left to drop and to tell gives what the rules drop and tell.
 -- Assumes nothing.
-use mathlib.Core.Path.{◌≡◌, refl, sym, ap, ◌∙◌}
+use mathlib.Core.Path.{◌≡◌, refl, sym, ap, subst, ◌∙◌}
 use mathlib.Core.Bool.{true}
 use Rattle.std.specs.Prelude.{None}
 use mathlib.Core.List.{List, [], ◌∷◌}
@@ -20,30 +20,15 @@ use Rattle.proposer_area.specs.declared.Header.{Header}
 use Rattle.proposer_area.specs.Places.{header_in, place_at, place_in}
 use Rattle.proposer_clock.specs.Late.{late_of}
 use Rattle.proposer_area.specs.Held.{Held}
-use Rattle.proposer_area.specs.HeldLaws.{place_room}
+use Rattle.proposer_area.specs.HeldLaws.{place_room, place_held}
 use Rattle.proposer_clock.specs.TickLaws.{Expiring, Expired, expire_begins, expire_ends, expire_full, expire_goes_on}
 use Rattle.proposer_clock.proofs.expire.Goals as goal
 
 -- ---- what the calls require
 
-header_room : (a : List ℕ) (n : ℕ) → Held a n → header_bytes ≤ length a
-header_room a n held = omega (arith, (sized_of a n held.sized).bytes)
-
-size_now : (a w : List ℕ) (n t k : ℕ) (a' w' : List ℕ) → Expiring a w n t k a' w' → sized a' n ≡ true
-size_now a w n t k a' w' here = here.held.sized
-
-same_size : (a w : List ℕ) (n t k : ℕ) (a' w' : List ℕ) → Held a n → Expiring a w n t k a' w' → length a' ≡ length a
-same_size a w n t k a' w' held here = (sized_of a' n here.held.sized).bytes ∙ sym (sized_of a n held.sized).bytes
-
 timeout_now : (a w : List ℕ) (n t k : ℕ) (a' w' : List ℕ) (h : Header) → Expiring a w n t k a' w' → h ≡ header_in a → h.timeout ≡ (read_area a' n).timeout
 unfolding read_area
 timeout_now a w n t k a' w' h here eh = ap (λ (g : Header). g.timeout) eh ∙ sym (ap (λ (s : Proposer). s.timeout) here.same)
-
-room_now : (a w : List ℕ) (n t k : ℕ) (a' w' : List ℕ) (i : ℕ) → Expiring a w n t k a' w' → i < n → place_at i + place_bytes ≤ length a'
-room_now a w n t k a' w' i here within = place_room a' n i here.held.sized within
-
-row_room : (a w : List ℕ) (n t k : ℕ) (a' w' : List ℕ) → Expiring a w n t k a' w' → k < n → rows_at + row_bytes * k + row_bytes ≤ length w'
-row_room a w n t k a' w' here more = omega (arith, here.size)
 
 -- ---- the turns
 
@@ -62,33 +47,44 @@ none_late a w n t k a' w' i here ei e = dropped a w n t k a' w' (expire_ends a w
 all_told : (a w : List ℕ) (n t k : ℕ) (a' w' : List ℕ) → Expiring a w n t k a' w' → k ≤ n → n ≤ k → Dropped a w n t k a' w'
 all_told a w n t k a' w' here most least = dropped a w n t k a' w' (expire_full a w n t k a' w' here (omega (arith, most, least)))
 
-pub take_header-h-requires : goal.take_header-h-requires
-take_header-h-requires c = search header_room
+-- ---- the area of a turn has as many places
+
+none_late_here : (a w : List ℕ) (n n' t k : ℕ) (a' w' : List ℕ) → n' ≡ n → Expiring a w n t k a' w' → late_of (read_area a' n') t (read_area a' n').places ≡ n' → Dropped a w n t k a' w'
+unfolding read_area
+none_late_here a w n n' t k a' w' en here e =
+    none_late a w n t k a' w' n here (subst (λ (m : ℕ). m ≡ late_of (read_area a' m) t (read_places a' header_bytes m)) en (sym e)) refl
+
+one_more_here : (a w : List ℕ) (n n' t k : ℕ) (a' w' : List ℕ) (i : ℕ) (f : Front) (a₁ w₁ : List ℕ) → n' ≡ n → Expiring a w n t k a' w' → i ≡ late_of (read_area a' n') t (read_area a' n').places → i < n' → f ≡ front_of (read_pending (place_in a' i)) → w₁ ≡ sets w' (rows_at + row_bytes * k) (rows_bytes (record { client = f.client; id = f.id } ∷ [])) → a₁ ≡ sets a' (place_at i) (place_image None) → Expiring a w n t (k + 1) a₁ w₁
+unfolding read_area
+one_more_here a w n n' t k a' w' i f a₁ w₁ en here ei within ef ew ea =
+    one_more a w n t k a' w' i f a₁ w₁ here
+    (subst (λ (m : ℕ). i ≡ late_of (read_area a' m) t (read_places a' header_bytes m)) en ei)
+    (subst (λ (m : ℕ). i < m) en within) ef ew ea
 
 pub loop-k-init : goal.loop-k-init
-loop-k-init c = search expire_begins
+loop-k-init c = (expire_begins _ _ _ _ c.args.area.now.held c.requires, refl, refl)
 
 pub lowest_late-requires : goal.lowest_late-requires
-lowest_late-requires c = (search size_now, search timeout_now)
+unfolding read_area
+lowest_late-requires c = timeout_now _ _ _ _ _ _ _ _ c.loop-k.invariant.0 c.header-h.ensures.0
 
 pub returns-in_default : goal.returns-in_default
 returns-in_default c =
-    none_late _ _ _ _ _ _ _ c.args.places c.loop-k.invariant (sym c.in_default.ensures) refl
-
-pub take_place-f-requires : goal.take_place-f-requires
-take_place-f-requires c = room_now _ _ _ _ _ _ _ _ c.loop-k.invariant c.in-Some.ensures.1
-
-pub put_row-requires : goal.put_row-requires
-put_row-requires c = search row_room depth 9
+    let d = none_late_here _ _ _ _ _ _ _ _ c.loop-k.invariant.2 c.loop-k.invariant.0 c.in_default.ensures in
+    (d.0, record { image = d.1; lent = c.loop-k.invariant.1; places = c.loop-k.invariant.2 }, d.2)
 
 pub drop_place-requires : goal.drop_place-requires
-drop_place-requires c = room_now _ _ _ _ _ _ _ _ c.loop-k.invariant c.in-Some.ensures.1
+drop_place-requires c = place_room _ _ _ c.loop-k.area.held.sized c.in-Some.ensures.1
+
+pub invariant_of-area : goal.invariant_of-area
+invariant_of-area c =
+    record { held = place_held _ _ _ None _ c.loop-k.area.held c.in-Some.ensures.1 tt c.drop_place.ensures }
 
 pub loop-k-preserved : goal.loop-k-preserved
 loop-k-preserved c =
-    one_more _ _ _ _ _ _ _ _ _ _ _ c.loop-k.invariant c.in-Some.ensures.0 c.in-Some.ensures.1 c.take_place-f.ensures.0 c.put_row.ensures c.drop_place.ensures
+    (one_more_here _ _ _ _ _ _ _ _ _ _ _ _ c.loop-k.invariant.2 c.loop-k.invariant.0 c.in-Some.ensures.0 c.in-Some.ensures.1 c.take_place-f.ensures.0 c.put_row.ensures c.drop_place.ensures, c.loop-k.invariant.1, c.loop-k.invariant.2)
 
 pub returns : goal.returns
 returns c =
-    let d = all_told _ _ _ _ _ _ _ c.loop-k.invariant c.loop-k.auto.k-end c.loop-k-test.false in
-    (omega (arith, d.0), d.1, d.2)
+    let d = all_told _ _ _ _ _ _ _ c.loop-k.invariant.0 c.loop-k.auto.k-end c.loop-k-test.false in
+    (omega (arith, d.0, c.loop-k.auto.k-end, c.loop-k-test.false, c.loop-k.invariant.2), record { image = d.1; lent = c.loop-k.invariant.1; places = c.loop-k.invariant.2 }, d.2)

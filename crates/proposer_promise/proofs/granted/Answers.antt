@@ -42,18 +42,18 @@ lawful_noted : (a : List ℕ) (n i : ℕ) (from : Address) (accepted : Ballot) (
 lawful_noted a n i from accepted mark v held asks hf ha bytes fits =
     promised_lawful (read_pending (place_in a i)) from accepted (given mark v) (lawful_pending a n held i asks.pends) hf asks.more_yeses ha (short_value mark v bytes fits)
 
-lawful_at : (c : Else-not-above) → let a = c.args in Lawful (promised_by (read_pending (place_in a.area.now a.i)) a.from a.accepted (given a.mark a.value.now))
+lawful_at : (c : Else-not-above) → let a = c.args in Lawful (promised_by (read_pending (place_in a.area.now.bytes.now a.i)) a.from a.accepted (given a.mark a.value.now))
 lawful_at c =
     let a = c.args in
-    lawful_noted a.area.now a.places a.i a.from a.accepted a.mark a.value.now c.requires.0 c.requires.2 (search rules) (search rules) c.type_inv.value c.requires.3
+    lawful_noted a.area.now.bytes.now a.area.now.places a.i a.from a.accepted a.mark a.value.now c.args.area.now.held c.requires.1 (search rules) (search rules) c.type_inv.value c.requires.2
 
 pub take_place-f-requires : goal.take_place-f-requires
-take_place-f-requires c = search held_room
+take_place-f-requires c = c.requires.1.pends.within
 
 pub returns-then-not-above : goal.returns-then-not-above
 returns-then-not-above c =
     let place = c.take_place-f in
-    promise_refused c.args.area.now c.args.answer.now c.args.places c.args.i place.result c.args.from c.args.accepted (given c.args.mark c.args.value.now) c.requires.0 c.requires.2 place.ensures.0 _ _ refl c.above.ensures c.if-not-above.true
+    record { worked = promise_refused c.args.area.now.bytes.now c.args.answer.now c.args.area.now.places c.args.i place.result c.args.from c.args.accepted (given c.args.mark c.args.value.now) c.args.area.now.held c.requires.1 place.ensures.0 _ _ refl c.above.ensures c.if-not-above.true; lent = refl; places = refl }
 
 pub note_promise-requires : goal.note_promise-requires
 note_promise-requires c = (search held_room, search held_used, search rules, search rules, search rules)
@@ -61,15 +61,21 @@ note_promise-requires c = (search held_room, search held_used, search rules, sea
 pub returns-then-short_of : goal.returns-then-short_of
 returns-then-short_of c =
     let place = c.take_place-f in
-    promise_noted c.args.area.now c.args.answer.now c.args.places c.args.i place.result c.args.from c.args.accepted (given c.args.mark c.args.value.now) c.requires.0 c.requires.2 place.ensures.0 _ _ _ refl c.above.ensures c.if-not-above.false c.short_of.ensures _ c.note_promise.ensures (lawful_at (goal.at.returns-then-short_of c).Else-not-above) c.if-short_of.true
+    record { worked = promise_noted c.args.area.now.bytes.now c.args.answer.now c.args.area.now.places c.args.i place.result c.args.from c.args.accepted (given c.args.mark c.args.value.now) c.args.area.now.held c.requires.1 place.ensures.0 _ _ _ refl c.above.ensures c.if-not-above.false c.short_of.ensures _ c.note_promise.ensures (lawful_at (goal.at.returns-then-short_of c).Else-not-above) c.if-short_of.true; lent = refl; places = refl }
+
+pub invariant_of-area : goal.invariant_of-area
+invariant_of-area c =
+    let area = c.args.area.now in
+    let lawful = lawful_at (goal.at.invariant_of-area c).Else-not-above in
+    record { held = noted_held area.bytes.now area.places c.args.i (promised_by (read_pending (place_in area.bytes.now c.args.i)) c.args.from c.args.accepted (given c.args.mark c.args.value.now)) area.held c.requires.1.pends.within lawful _ c.note_promise.ensures }
 
 pub to_accept-requires : goal.to_accept-requires
 to_accept-requires c =
-    let noted = c.note_promise.ensures in
+    let area = c.args.area.now in
     let lawful = lawful_at (goal.at.to_accept-requires c).Else-not-above in
-    (noted_held c.args.area.now c.args.places c.args.i (promised_by (read_pending (place_in c.args.area.now c.args.i)) c.args.from c.args.accepted (given c.args.mark c.args.value.now)) c.requires.0 c.requires.2.pends.within lawful _ noted, c.requires.1, noted_pends c.args.area.now c.args.places c.args.i (promised_by (read_pending (place_in c.args.area.now c.args.i)) c.args.from c.args.accepted (given c.args.mark c.args.value.now)) c.requires.0 c.requires.2.pends.within lawful _ noted)
+    (c.requires.0, noted_pends area.bytes.now area.places c.args.i (promised_by (read_pending (place_in area.bytes.now c.args.i)) c.args.from c.args.accepted (given c.args.mark c.args.value.now)) area.held c.requires.1.pends.within lawful _ c.note_promise.ensures)
 
 pub returns : goal.returns
 returns c =
     let place = c.take_place-f in
-    promise_settled c.args.area.now c.args.answer.now c.args.places c.args.i place.result c.args.from c.args.accepted (given c.args.mark c.args.value.now) c.requires.0 c.requires.2 place.ensures.0 _ _ _ refl c.above.ensures c.if-not-above.false c.short_of.ensures _ c.note_promise.ensures (lawful_at (goal.at.returns c).Else-not-above) _ _ _ c.if-short_of.false c.to_accept.ensures
+    record { worked = promise_settled c.args.area.now.bytes.now c.args.answer.now c.args.area.now.places c.args.i place.result c.args.from c.args.accepted (given c.args.mark c.args.value.now) c.args.area.now.held c.requires.1 place.ensures.0 _ _ _ refl c.above.ensures c.if-not-above.false c.short_of.ensures _ c.note_promise.ensures (lawful_at (goal.at.returns c).Else-not-above) _ _ _ c.if-short_of.false c.to_accept.ensures.worked; lent = c.to_accept.ensures.lent; places = c.to_accept.ensures.places }

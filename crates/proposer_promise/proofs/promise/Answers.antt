@@ -20,22 +20,23 @@ use Rattle.proposer_area.specs.Places.{place_in}
 use Rattle.proposer_area.specs.HeldLaws.{place_room}
 use Rattle.proposer_works.specs.Works.{Worked, granting, rejecting}
 use Rattle.proposer_works.specs.AskLaws.{silent_promise, late_promise, promise_repeated, promise_unasked, promise_ok, promise_rejected, promise_foreign}
-use Rattle.proposer_works.specs.Found.{Found, found_room, few_waited, few_yeses, few_noes, Tested, tested_asks}
+use Rattle.proposer_works.specs.Found.{Found, few_waited, few_yeses, few_noes, Tested, tested_asks}
 use Rattle.proposer_promise.proofs.promise.Goals as goal
 use Rattle.proposer_promise.proofs.promise.Goals.{After-take_place-f, Else-not-is_waited_for}
 
 -- ---- what the search and the tests have shown
 
-found_at : (c : After-take_place-f) → let args = c.args in Found args.area.now args.places c.in-Some.i args.ballot c.take_place-f.result
+found_at : (c : After-take_place-f) → let args = c.args in Found args.area.now.bytes.now args.area.now.places c.in-Some.i args.ballot c.take_place-f.result
+unfolding read_area
 found_at c =
     record {
-      held = c.requires.0;
+      held = c.args.area.now.held;
       place = c.in-Some.ensures.0;
       within = c.in-Some.ensures.1;
       front = c.take_place-f.ensures.0;
     }
 
-tested_at : (c : Else-not-is_waited_for) → Found c.args.area.now c.args.places c.in-Some.i c.args.ballot c.take_place-f.result → let args = c.args in Tested args.area.now args.places c.in-Some.i args.ballot c.take_place-f.result args.from
+tested_at : (c : Else-not-is_waited_for) → Found c.args.area.now.bytes.now c.args.area.now.places c.in-Some.i c.args.ballot c.take_place-f.result → let args = c.args in Tested args.area.now.bytes.now args.area.now.places c.in-Some.i args.ballot c.take_place-f.result args.from
 tested_at c known = record {
   found = known;
   answered = c.has_answered.result;
@@ -61,69 +62,67 @@ module _ (a w : List ℕ) (n i : ℕ) (ballot : Ballot) (f : Front) (from : Addr
   foreign : (error : Error) (v : List ℕ) → res ≡ Err error → foreign_promise (result_of (Err error) v) ≡ true → Worked w (on_promise (read_area a n) (pending_at ballot (read_area a n).places) from b o (result_of res v)) (Answer.Refused Refusal.ForeignError) a w
   foreign error v e strange = by_result (Err error) v (Answer.Refused Refusal.ForeignError) a w e (promise_foreign a w n i ballot f from b o t.found.held t.found.place t.found.within t.found.front first t.answered t.answers t.not_yet t.waited t.waiting t.there (failure_of error v) strange)
 
-pub find-requires : goal.find-requires
-find-requires c = c.requires.0.sized
-
 pub returns-in_default : goal.returns-in_default
+unfolding read_area
 returns-in_default c =
     let args = c.args in
-    λ v. silent_promise args.area.now args.answer.now args.places args.places args.ballot c.requires.0 (sym c.in_default.ensures) args.from args.accepted (given args.mark args.value.now) (result_of args.res v) refl
+    λ v. record { worked = silent_promise args.area.now.bytes.now args.answer.now args.area.now.places args.area.now.places args.ballot c.args.area.now.held (sym c.in_default.ensures) args.from args.accepted (given args.mark args.value.now) (result_of args.res v) refl; lent = refl; places = refl }
 
 pub take_place-f-requires : goal.take_place-f-requires
-take_place-f-requires c = place_room _ _ _ c.requires.0.sized c.in-Some.ensures.1
+take_place-f-requires c = c.in-Some.ensures.1
 
 pub returns-in-Accept : goal.returns-in-Accept
 returns-in-Accept c =
     let args = c.args in
     let found = found_at (goal.at.returns-in-Accept c).After-take_place-f in
-    λ v. late_promise args.area.now args.answer.now args.places _ args.ballot _ args.from args.accepted (given args.mark args.value.now) found.held found.place found.within found.front (result_of args.res v) c.in-Accept.is
+    λ v. record { worked = late_promise args.area.now.bytes.now args.answer.now args.area.now.places _ args.ballot _ args.from args.accepted (given args.mark args.value.now) found.held found.place found.within found.front (result_of args.res v) c.in-Accept.is; lent = refl; places = refl }
 
 pub has_answered-requires : goal.has_answered-requires
 has_answered-requires c =
     let found = found_at (goal.at.has_answered-requires c).After-take_place-f in
-    (found_room _ _ _ _ _ found, found.front, few_yeses _ _ _ _ _ found, few_noes _ _ _ _ _ found)
+    (found.within, found.front, few_yeses _ _ _ _ _ found, few_noes _ _ _ _ _ found)
 
 pub returns-then-has_answered : goal.returns-then-has_answered
 returns-then-has_answered c =
     let args = c.args in
     let found = found_at (goal.at.returns-then-has_answered c).After-take_place-f in
-    λ v. promise_repeated args.area.now args.answer.now args.places _ args.ballot _ args.from args.accepted (given args.mark args.value.now) found.held found.place found.within found.front c.in_default-phase.is (result_of args.res v) _ c.has_answered.ensures c.if-has_answered.true
+    λ v. record { worked = promise_repeated args.area.now.bytes.now args.answer.now args.area.now.places _ args.ballot _ args.from args.accepted (given args.mark args.value.now) found.held found.place found.within found.front c.in_default-phase.is (result_of args.res v) _ c.has_answered.ensures c.if-has_answered.true; lent = refl; places = refl }
 
 pub is_waited_for-requires : goal.is_waited_for-requires
 is_waited_for-requires c =
     let found = found_at (goal.at.is_waited_for-requires c).After-take_place-f in
-    (found_room _ _ _ _ _ found, found.front, few_waited _ _ _ _ _ found)
+    (found.within, found.front, few_waited _ _ _ _ _ found)
 
 pub returns-then-not-is_waited_for : goal.returns-then-not-is_waited_for
 returns-then-not-is_waited_for c =
     let args = c.args in
     let found = found_at (goal.at.returns-then-not-is_waited_for c).After-take_place-f in
-    λ v. promise_unasked args.area.now args.answer.now args.places _ args.ballot _ args.from args.accepted (given args.mark args.value.now) found.held found.place found.within found.front c.in_default-phase.is _ c.has_answered.ensures c.if-has_answered.false (result_of args.res v) _ c.is_waited_for.ensures c.if-not-is_waited_for.true
+    λ v. record { worked = promise_unasked args.area.now.bytes.now args.answer.now args.area.now.places _ args.ballot _ args.from args.accepted (given args.mark args.value.now) found.held found.place found.within found.front c.in_default-phase.is _ c.has_answered.ensures c.if-has_answered.false (result_of args.res v) _ c.is_waited_for.ensures c.if-not-is_waited_for.true; lent = refl; places = refl }
 
 pub granted-requires : goal.granted-requires
-granted-requires c = (c.requires.0, c.requires.1, tested_asks _ _ _ _ _ _ c.requires.2 (tested_at (goal.at.granted-requires c).Else-not-is_waited_for (found_at (goal.at.granted-requires c).After-take_place-f)), c.requires.3)
+granted-requires c = (c.requires.0, tested_asks _ _ _ _ _ _ c.requires.1 (tested_at (goal.at.granted-requires c).Else-not-is_waited_for (found_at (goal.at.granted-requires c).After-take_place-f)), c.requires.2)
 
 pub rejected-requires : goal.rejected-requires
-rejected-requires c = (c.requires.0, c.requires.1, tested_asks _ _ _ _ _ _ c.requires.2 (tested_at (goal.at.rejected-requires c).Else-not-is_waited_for (found_at (goal.at.rejected-requires c).After-take_place-f)))
+rejected-requires c = (c.requires.0, tested_asks _ _ _ _ _ _ c.requires.1 (tested_at (goal.at.rejected-requires c).Else-not-is_waited_for (found_at (goal.at.rejected-requires c).After-take_place-f)))
 
 pub returns-in-Ok : goal.returns-in-Ok
 returns-in-Ok c =
     let args = c.args in
-    λ v. granted args.area.now args.answer.now args.places _ args.ballot _ args.from args.accepted (given args.mark args.value.now) (tested_at (goal.at.returns-in-Ok c).Else-not-is_waited_for (found_at (goal.at.returns-in-Ok c).After-take_place-f)) c.in_default-phase.is args.res v _ _ _ c.in-Ok.is c.granted.ensures
+    λ v. record { worked = granted args.area.now.bytes.now args.answer.now args.area.now.places _ args.ballot _ args.from args.accepted (given args.mark args.value.now) (tested_at (goal.at.returns-in-Ok c).Else-not-is_waited_for (found_at (goal.at.returns-in-Ok c).After-take_place-f)) c.in_default-phase.is args.res v _ _ _ c.in-Ok.is c.granted.ensures.worked; lent = c.granted.ensures.lent; places = c.granted.ensures.places }
 
 pub returns-in-ProposalRejected : goal.returns-in-ProposalRejected
 returns-in-ProposalRejected c =
     let args = c.args in
-    λ v. rejected args.area.now args.answer.now args.places _ args.ballot _ args.from args.accepted (given args.mark args.value.now) (tested_at (goal.at.returns-in-ProposalRejected c).Else-not-is_waited_for (found_at (goal.at.returns-in-ProposalRejected c).After-take_place-f)) c.in_default-phase.is args.res v _ _ _ _ (c.in-Err.is ∙ ap Err c.in-ProposalRejected.is) (c.rejected.ensures args.accepted (given args.mark args.value.now))
+    λ v. record { worked = rejected args.area.now.bytes.now args.answer.now args.area.now.places _ args.ballot _ args.from args.accepted (given args.mark args.value.now) (tested_at (goal.at.returns-in-ProposalRejected c).Else-not-is_waited_for (found_at (goal.at.returns-in-ProposalRejected c).After-take_place-f)) c.in_default-phase.is args.res v _ _ _ _ (c.in-Err.is ∙ ap Err c.in-ProposalRejected.is) (c.rejected.ensures args.accepted (given args.mark args.value.now)).worked; lent = (c.rejected.ensures args.accepted (given args.mark args.value.now)).lent; places = (c.rejected.ensures args.accepted (given args.mark args.value.now)).places }
 
 pub returns-in-AcceptRejected : goal.returns-in-AcceptRejected
 returns-in-AcceptRejected c =
     let args = c.args in
     let tested = tested_at (goal.at.returns-in-AcceptRejected c).Else-not-is_waited_for (found_at (goal.at.returns-in-AcceptRejected c).After-take_place-f) in
     elim c.in-AcceptRejected.is [
-      | inl h ↦ λ v. foreign args.area.now args.answer.now args.places _ args.ballot _ args.from args.accepted (given args.mark args.value.now) tested c.in_default-phase.is args.res _ v (c.in-Err.is ∙ ap Err h.1) refl
+      | inl h ↦ λ v. record { worked = foreign args.area.now.bytes.now args.answer.now args.area.now.places _ args.ballot _ args.from args.accepted (given args.mark args.value.now) tested c.in_default-phase.is args.res _ v (c.in-Err.is ∙ ap Err h.1) refl; lent = refl; places = refl }
       | inr k ↦ elim k [
-        | inl h ↦ λ v. foreign args.area.now args.answer.now args.places _ args.ballot _ args.from args.accepted (given args.mark args.value.now) tested c.in_default-phase.is args.res _ v (c.in-Err.is ∙ ap Err h.1) refl
-        | inr h ↦ λ v. foreign args.area.now args.answer.now args.places _ args.ballot _ args.from args.accepted (given args.mark args.value.now) tested c.in_default-phase.is args.res _ v (c.in-Err.is ∙ ap Err h) refl
+        | inl h ↦ λ v. record { worked = foreign args.area.now.bytes.now args.answer.now args.area.now.places _ args.ballot _ args.from args.accepted (given args.mark args.value.now) tested c.in_default-phase.is args.res _ v (c.in-Err.is ∙ ap Err h.1) refl; lent = refl; places = refl }
+        | inr h ↦ λ v. record { worked = foreign args.area.now.bytes.now args.answer.now args.area.now.places _ args.ballot _ args.from args.accepted (given args.mark args.value.now) tested c.in_default-phase.is args.res _ v (c.in-Err.is ∙ ap Err h) refl; lent = refl; places = refl }
       ]
     ]

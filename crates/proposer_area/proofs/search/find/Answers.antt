@@ -5,17 +5,18 @@ use Rattle.std.proofs.lemmas.Iterator.{YieldsList-from_slice}
 use Rattle.std.proofs.lemmas.Iterator.Search.{position_from_yields_List}
 use Rattle.leaf_fields.specs.Fields.{byte}
 use Rattle.proposer_rules.specs.Rules.{is_ballot}
-use Rattle.proposer_place.specs.Area.{read_pending}
+use Rattle.proposer_place.specs.Area.{read_pending, read_area}
 use Rattle.proposer_area.specs.Places.{places_in}
 use Rattle.proposer_area.specs.Turns.{sized_of}
 use Rattle.proposer_area.specs.Chunks.{chunks_all, place_by}
 use Rattle.proposer_area.proofs.search.find.Goals as goal
 
 pub places_in-requires : goal.places_in-requires
-places_in-requires c = omega (arith, (sized_of _ _ c.requires).bytes)
+places_in-requires c = omega (arith, (sized_of _ _ c.args.area.now.held.sized).bytes)
 
 pub returns : goal.returns
+unfolding read_area
 returns c =
-    let f = chunks_all _ _ _ c.requires c.places_in.ensures in
-    let all : c.iter.result.rest.now ≡ places_in c.args.area.now c.args.places = c.iter.ensures.rest ∙ f.0 in
-    place_by _ _ _ _ (position_from_yields_List (λ b. not (eqb (byte b 0) 0) && is_ballot c.args.ballot (read_pending b)) _ _ c.position.result c.position.ensures.ran (YieldsList-from_slice (places_in c.args.area.now c.args.places) all) (λ x b q k. search (rules, tests)))
+    let f = chunks_all _ _ _ c.args.area.now.held.sized c.places_in.ensures in
+    let all : c.iter.result.rest.now ≡ places_in c.args.area.now.bytes.now c.args.area.now.places = c.iter.ensures.rest ∙ f.0 in
+    place_by _ _ _ _ (position_from_yields_List (λ b. not (eqb (byte b 0) 0) && is_ballot c.args.ballot (read_pending b)) _ _ c.position.result c.position.ensures.ran (YieldsList-from_slice (places_in c.args.area.now.bytes.now c.args.area.now.places) all) (λ x b q k. search (rules, tests)))

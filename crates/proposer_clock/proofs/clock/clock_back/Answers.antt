@@ -8,7 +8,7 @@ use Rattle.std.proofs.lemmas.Iterator.Search.{any_from_yields_List}
 use Rattle.leaf_fields.specs.Fields.{byte}
 use Rattle.proposer_rules.specs.State.{Pending}
 use Rattle.proposer_rules.specs.Rules.{clock_back}
-use Rattle.proposer_place.specs.Area.{read_pending, read_place, read_places}
+use Rattle.proposer_place.specs.Area.{read_area, read_pending, read_place, read_places}
 use Rattle.proposer_area.specs.Places.{places_in}
 use Rattle.proposer_area.specs.Turns.{sized_of, passes}
 use Rattle.proposer_area.specs.Chunks.{chunks_all, any_place, places_read}
@@ -24,9 +24,10 @@ back_by : (a : List ℕ) (n t : ℕ) (r : Bool) → r ≡ list_any (λ b. not (e
 back_by a n t r e = e ∙ any_place (λ p. ltb t p.received_at) (places_in a n) ∙ ahead_any t (map read_place (places_in a n)) ∙ ap (clock_back t) (sym (places_read a n))
 
 pub places_in-requires : goal.places_in-requires
-places_in-requires c = omega (arith, sized_of _ _ c.requires)
+places_in-requires c = omega (arith, sized_of _ _ c.args.area.now.held.sized)
 
 pub returns : goal.returns
+unfolding read_area
 returns c =
-    let f = chunks_all _ _ _ c.requires c.places_in.ensures in
-    back_by _ _ _ _ (any_from_yields_List (λ b. not (eqb (byte b 0) 0) && ltb c.args.t (read_pending b).received_at) _ _ c.any.result c.any.ensures.ran (YieldsList-from_slice (places_in c.args.area.now c.args.places) (c.iter.ensures.rest ∙ f.0)) (λ x b q k. search (rules, tests)))
+    let f = chunks_all _ _ _ c.args.area.now.held.sized c.places_in.ensures in
+    back_by _ _ _ _ (any_from_yields_List (λ b. not (eqb (byte b 0) 0) && ltb c.args.t (read_pending b).received_at) _ _ c.any.result c.any.ensures.ran (YieldsList-from_slice (places_in c.args.area.now.bytes.now c.args.area.now.places) (c.iter.ensures.rest ∙ f.0)) (λ x b q k. search (rules, tests)))

@@ -1,0 +1,32 @@
+// A lent area with its number of places.
+ghost use Rattle.std.specs.Prelude.{◌≡◌, ◌<◌};
+ghost use Rattle.proposer_area.specs.Held.{Held};
+ghost use Rattle.proposer_area.specs.HeldProp.{Held-prop};
+
+use super::{Header, take_header};
+
+// An area that is the image of a state that may be held.
+#[derive(Drop)]
+pub struct Area<'a> {
+    pub bytes: &'a mut [u8],
+    pub places: usize,
+    pub ghost held: { Held bytes.now places } by { Held-prop bytes.now places },
+}
+
+impl<'a> Area<'a> {
+    ghost use Rattle.proposer_area.specs.Places.{header_in};
+
+    // Its bytes, to read.
+    pub fn bytes(&self) -> &[u8]
+        ensures { result.now ≡ self.now.bytes.now }
+    {
+        self.bytes
+    }
+
+    // Its header, taken out.
+    pub fn header(&self) -> Header
+        ensures { (result ≡ header_in self.now.bytes.now) × (result.accept < 256) × (result.propose < 256) }
+    {
+        take_header(self.bytes)
+    }
+}
