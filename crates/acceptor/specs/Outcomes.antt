@@ -22,7 +22,7 @@ use Rattle.storage_block.specs.Block.{free, Register, fresh, readable, register_
 use Rattle.storage_block.specs.Stores.{value_back}
 use Rattle.storage_block.specs.Read.{value_fits_lem}
 use Rattle.storage_search.specs.declared.Found.{Found}
-use Rattle.storage_search.specs.Table.{is_sized, none_bad, block_at, with_block, slots, where_is, is_twice, register_in, register_by, Lent}
+use Rattle.storage_search.specs.Table.{is_sized, none_bad, block_at, with_block, slots, where_is, is_twice, register_in, register_by, Lent, table_tests}
 use Rattle.storage_search.specs.Blocks.{length_block}
 use Rattle.storage_search.specs.Keys.{place_known, place_free, room_in, readable_in, register_known, register_new}
 use Rattle.acceptor_rules.specs.Rules.{Work, proposed, accepted, Job, proposal, acceptance, job_of, keep, put, Outcome, outcome, work_on, unless, receive}
@@ -185,13 +185,30 @@ pub size_refused : (t : List ℕ) (n : ℕ) (a : List ℕ) (from : Address) (m :
 unfolding outcome_on
 size_refused t n a from m h = refused_by_lem t n a from m Refusal.AreaSize (rw h)
 
-pub area_refused : (t : List ℕ) (n : ℕ) (a : List ℕ) (from : Address) (m : Message) → is_sized t n ≡ true → (length a ≡ 256 → ⊥) → Received t n a from m (Answer.Refused Refusal.AreaSize) t a
+pub area_refused : (t : List ℕ) (n : ℕ) (a : List ℕ) (from : Address) (m : Message) → (length a ≡ 256 → ⊥) → Received t n a from m (Answer.Refused Refusal.AreaSize) t a
 unfolding outcome_on
-area_refused t n a from m h ne = refused_by_lem t n a from m Refusal.AreaSize (rw (h, ne_eqb (length a) 256 ne))
+area_refused t n a from m ne = by (is_sized t n) refl
+  where
+    by : (s : Bool) → is_sized t n ≡ s → Received t n a from m (Answer.Refused Refusal.AreaSize) t a
+    by true h = refused_by_lem t n a from m Refusal.AreaSize (rw (h, ne_eqb (length a) 256 ne))
+    by false h = size_refused t n a from m h
 
 pub damage_refused : (t : List ℕ) (n : ℕ) (a : List ℕ) (from : Address) (m : Message) → is_sized t n ≡ true → length a ≡ 256 → none_bad (slots t n) ≡ false → Received t n a from m (Answer.Refused Refusal.Damaged) t a
 unfolding outcome_on receive
 damage_refused t n a from m h la d = refused_by_lem t n a from m Refusal.Damaged (rw (h, eq-eqb (length a) 256 la, d))
+
+-- what the two tests of a table refuse
+pub table_refused : (t : List ℕ) (n : ℕ) (a : List ℕ) (from : Address) (m : Message) (x : Refusal) → length a ≡ 256 → first_due (table_tests t n) ≡ Some x → Received t n a from m (Answer.Refused x) t a
+table_refused t n a from m x la = by (is_sized t n) (none_bad (slots t n)) refl refl
+  where
+    by : (s d : Bool) → is_sized t n ≡ s → none_bad (slots t n) ≡ d → first_due (test (not s) Refusal.AreaSize ∷ test (not d) Refusal.Damaged ∷ []) ≡ Some x → Received t n a from m (Answer.Refused x) t a
+    by false d hs hd e =
+        let same : Refusal.AreaSize ≡ x = cc in
+        rw same at (size_refused t n a from m hs)
+    by true false hs hd e =
+        let same : Refusal.Damaged ≡ x = cc in
+        rw same at (damage_refused t n a from m hs la hd)
+    by true true hs hd e = cc
 
 pub kind_refused : (t : List ℕ) (n : ℕ) (a : List ℕ) (from : Address) (m : Message) → is_sized t n ≡ true → length a ≡ 256 → none_bad (slots t n) ≡ true → job_of m ≡ None → Received t n a from m (Answer.Refused Refusal.WrongKind) t a
 unfolding outcome_on receive

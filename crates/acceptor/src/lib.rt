@@ -18,7 +18,7 @@ use storage_search::Found;
 // The answer area: the value that an answer to a proposal carries.
 pub const ANSWER: usize = VALUE_MOST;
 
-// A proposal on block i of the table: that block alone is lent on.
+// A proposal on block i of the table: that block alone is lent on, as storage's `set_at` does and says why there is no one function for it.
 fn propose_at(
     table: &mut [u8],
     i: usize,
@@ -30,8 +30,11 @@ fn propose_at(
     requires { (i * block_bytes + block_bytes ≤ length table.old) × (readable (block_at table.old i) ≡ true) × (length key.now ≤ key_most) }
     ensures { (Placed (proposed ballot (register_with key.now (block_at table.old i))) from table.old i result table.new) × (area.new ≡ sets area.old 0 (bytes_of (register_of (block_at table.old i)).value)) }
 {
-    let a = i * BLOCK;
-    acceptor_work::propose_in(&mut table[a..a + BLOCK], from, ballot, key, area)
+    let (_, rest) = table.split_at_mut(i * BLOCK);
+    let Some(b) = rest.first_chunk_mut() else {
+        unreachable!()
+    };
+    acceptor_work::propose_in(b, from, ballot, key, area)
 }
 
 // An acceptance on block i of the table: that block alone is lent on.
@@ -47,12 +50,15 @@ fn accept_at(
     requires { (i * block_bytes + block_bytes ≤ length table.old) × (length key.now ≤ key_most) × (length (bytes_of (given value bytes.now)) ≤ value_most) }
     ensures { Placed (accepted ballot (given value bytes.now) (register_with key.now (block_at table.old i))) from table.old i result table.new }
 {
-    let a = i * BLOCK;
-    acceptor_work::accept_in(&mut table[a..a + BLOCK], from, ballot, key, value, bytes)
+    let (_, rest) = table.split_at_mut(i * BLOCK);
+    let Some(b) = rest.first_chunk_mut() else {
+        unreachable!()
+    };
+    acceptor_work::accept_in(b, from, ballot, key, value, bytes)
 }
 
 // A message from an address, on a lent table of that many registers. The value of an answer is put into the lent answer area. Any input is
-// taken; refusals are 1, 2, 3, 4 and 11.
+// taken; refusals are 1, 2, 3, 4 and 11. The table and its registers come side by side, as the C interface has them.
 pub fn receive(
     table: &mut [u8],
     registers: usize,
@@ -62,20 +68,18 @@ pub fn receive(
 ) -> Answer
     ensures { Received table.old registers area.old from (arrived message.entry) result table.new area.new }
 {
-    if !storage_search::is_sized(table, registers) {
-        return Answer::Refused(Refusal::AreaSize);
-    }
     let Some(area) = area.as_mut_array() else {
         return Answer::Refused(Refusal::AreaSize);
     };
-    if !storage_search::is_sound(table, registers) {
-        return Answer::Refused(Refusal::Damaged);
-    }
+    let blocks = match storage_search::sound(table, registers) {
+        Ok(blocks) => blocks,
+        Err(refusal) => return Answer::Refused(refusal),
+    };
     if !matches!(message.rpc, Rpc::ProposeReq(_) | Rpc::AcceptReq(_, _)) {
         return Answer::Refused(Refusal::WrongKind);
     }
     // the block that has the key or takes it
-    let block = match storage_search::locate(table, registers, message.key) {
+    let block = match storage_search::locate(blocks, message.key) {
         Found::At(i) | Found::Free(i) => Some(i),
         Found::Full => None,
         Found::Twice => return Answer::Refused(Refusal::Damaged),

@@ -1,5 +1,4 @@
-// The acceptor's work on one block of a lent table, and its answer where no block holds the key and none is free. A block comes as a slice
-// and is made an array here: what `as_mut_array` leaves is known to a proof only where the whole slice is a parameter.
+// The acceptor's work on one block of a lent table, and its answer where no block holds the key and none is free.
 #![tactic(auto)]
 
 ghost use Rattle.std.specs.Prelude.{◌≡◌, true, [], ◌≤◌, length};
@@ -7,31 +6,30 @@ ghost use Rattle.std.proofs.lemmas.List.Edits.{sets};
 ghost use Rattle.messages.specs.Message.{given};
 ghost use Rattle.messages.specs.Limits.{key_most, value_most};
 ghost use Rattle.messages.specs.Answers.{bytes_of};
-ghost use Rattle.storage_block.specs.Block.{block_bytes, readable, register_of, register_with, fresh};
+ghost use Rattle.storage_block.specs.Block.{readable, register_of, register_with, fresh};
 ghost use Rattle.acceptor_rules.specs.Rules.{proposed, accepted};
 ghost use Rattle.acceptor_work.specs.Contract.{Worked, full_answer};
 
 use messages::{Address, Answer, Ballot, Error, Lent, Refusal, Rpc, VALUE_MOST};
+use storage_block::BLOCK;
 use storage_write::Register;
 
 // A proposal on the block that holds its key, or on a free one.
 pub fn propose_in(
-    b: &mut [u8],
+    b: &mut [u8; BLOCK],
     from: Address,
     ballot: Ballot,
     key: &[u8],
     area: &mut [u8; VALUE_MOST],
 ) -> Answer
-    requires { (length b.old ≡ block_bytes) × (readable b.old ≡ true) × (length key.now ≤ key_most) }
+    requires { (readable b.old ≡ true) × (length key.now ≤ key_most) }
     ensures { (Worked (proposed ballot (register_with key.now b.old)) from b.old result b.new) × (area.new ≡ sets area.old 0 (bytes_of (register_of b.old).value)) }
 {
-    let Some(b) = b.as_mut_array() else {
-        unreachable!()
-    };
     let seen = storage_block::highest_seen(b);
     let last = storage_block::accepted_ballot(b);
-    let mark = storage_block::value_mark(b);
-    let len = storage_block::copy_value(b, area);
+    let value = storage_block::copy_value(b, area);
+    let mark = value.and(Some(Lent));
+    let len = value.unwrap_or(0);
     let res = if ballot.above(seen) {
         let promised = Register {
             key,
@@ -59,19 +57,16 @@ pub fn propose_in(
 
 // An acceptance on the block that holds its key, or on a free one. Its answer carries no value.
 pub fn accept_in(
-    b: &mut [u8],
+    b: &mut [u8; BLOCK],
     from: Address,
     ballot: Ballot,
     key: &[u8],
     value: Option<Lent>,
     bytes: &[u8],
 ) -> Answer
-    requires { (length b.old ≡ block_bytes) × (length key.now ≤ key_most) × (length (bytes_of (given value bytes.now)) ≤ value_most) }
+    requires { (length key.now ≤ key_most) × (length (bytes_of (given value bytes.now)) ≤ value_most) }
     ensures { Worked (accepted ballot (given value bytes.now) (register_with key.now b.old)) from b.old result b.new }
 {
-    let Some(b) = b.as_mut_array() else {
-        unreachable!()
-    };
     let seen = storage_block::highest_seen(b);
     let res = if seen.above(ballot) {
         Err(Error::AcceptRejected { last: seen })

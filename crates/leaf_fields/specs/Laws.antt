@@ -1,6 +1,6 @@
 -- The laws of fields: what is stored is read back, at any width, and every other field is as it was.
 -- Assumes nothing.
-use Rattle.std.specs.Prelude.{◌≡◌, refl, Bool, true, false, cond, ◌&&◌, List, [], ◌∷◌, ◌++◌, ℕ, zero, suc, ◌+◌, ◌-◌, ◌*◌, ◌/◌, ◌%◌, ◌^◌, ◌≤◌, ◌<◌, eqb, length, take, drop, set, replicate}
+use Rattle.std.specs.Prelude.{◌≡◌, refl, Bool, true, false, ◌&&◌, List, [], ◌∷◌, ◌++◌, ℕ, zero, suc, ◌+◌, ◌-◌, ◌*◌, ◌/◌, ◌%◌, ◌^◌, ◌≤◌, ◌<◌, eqb, length, take, drop, set, replicate}
 use Rattle.std.proofs.Common.{ap, ◌∙◌, pow-suc, arith, eqb-true, eq-eqb, lit<, length-take, length-drop, length-append, drop-cons, get_or-drop, get_or-set_same, get_or-set_other, drop_at, take_at, drop-set-lt}
 use Rattle.std.proofs.lemmas.Bool.{false≢true}
 use Rattle.std.proofs.Math.Decide.{ℕ_discrete}
@@ -84,13 +84,6 @@ part_after l at (v ∷ vs) a n h = part_after (set l at v) (suc at) vs a n (omeg
 pub and_true : (x y : Bool) → (x && y) ≡ true → (x ≡ true) × (y ≡ true)
 and_true true y h = (refl, h)
 and_true false y h = absurd (false≢true h)
-
--- a choice by a test whose outcome is known
-pub cond-true : {A : Type 0} (b : Bool) (x y : A) → b ≡ true → x ≡ cond b x y
-cond-true b x y e = rw e
-
-pub cond-false : {A : Type 0} (b : Bool) (x y : A) → b ≡ false → y ≡ cond b x y
-cond-false b x y e = rw e
 
 -- a row of zeros is that many zeros
 pub zeros_are : (l : List ℕ) → all_zero l ≡ true → l ≡ replicate (length l) 0

@@ -2,4 +2,3 @@ pub mod Fields
 pub mod Laws
 pub mod Rows
 pub mod Stores
-pub mod Chains

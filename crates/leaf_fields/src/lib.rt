@@ -30,7 +30,7 @@ pub fn put(d: &mut [u8], at: usize, n: usize, x: u64)
     }
 }
 
-// A number of one of 01's widths.
+// A number of one of 01's widths: an instance a type, for the one `read` and the one `write`.
 pub trait Number: Sized {
     ghost WIDTH: { ℕ };
 

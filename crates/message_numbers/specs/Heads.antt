@@ -1,6 +1,6 @@
 -- A message in eight numbers: which message they are, and which numbers a message is. The numbers of kinds, requests and results are those of include/mirkaspel.h.
 -- Assumes nothing.
-use Rattle.messages.specs.Message.{lent}
+use Rattle.messages.specs.Message.{mark, of_mark}
 use Rattle.std.specs.Prelude.{◌≡◌, refl, cond, List, ℕ, eqb, get_or, Option, None, Some, Result, Ok, Err, option_map, unwrap_or}
 use Rattle.messages.specs.declared.Ballot.{Ballot}
 use Rattle.messages.specs.declared.Lent.{Lent}
@@ -27,17 +27,13 @@ head_in w =
 abbrev ballot : ℕ → Ballot
 ballot n = record { 0 = n }
 
--- 0 is no value, any other number a value
-abbrev pub mark_of : ℕ → Option Lent
-mark_of n = cond (eqb n 0) None (Some lent)
-
 -- the result that a head has, if 01 has its number
 abbrev pub verdict_of : Head → Option (Result Unit Error)
 verdict_of h =
     cond (eqb h.result 0) (Some (Ok tt))
     (cond (eqb h.result 1) (Some (Err (Error.ProposalRejected (ballot h.last))))
     (cond (eqb h.result 2) (Some (Err (Error.AcceptRejected (ballot h.last))))
-    (cond (eqb h.result 3) (Some (Err (Error.CasFailed (mark_of h.other))))
+    (cond (eqb h.result 3) (Some (Err (Error.CasFailed (of_mark h.other))))
     (cond (eqb h.result 4) (Some (Err Error.Timeout)) None))))
 
 -- the request, if 01 has its number
@@ -46,14 +42,14 @@ request_of h =
     cond (eqb h.request 1) (Some Req.Get)
     (cond (eqb h.request 2) (Some Req.Del)
     (cond (eqb h.request 3) (Some Req.Set)
-    (cond (eqb h.request 4) (Some (Req.Cas (mark_of h.value) (mark_of h.other))) None)))
+    (cond (eqb h.request 4) (Some (Req.Cas (of_mark h.value) (of_mark h.other))) None)))
 
 abbrev pub response_of : Head → Result Unit Error → Rpc
-response_of h (Ok done) = Rpc.ClientResponse h.number (Ok (mark_of h.value))
+response_of h (Ok done) = Rpc.ClientResponse h.number (Ok (of_mark h.value))
 response_of h (Err e) = Rpc.ClientResponse h.number (Err e)
 
 abbrev pub promise_of : Head → Result Unit Error → Rpc
-promise_of h r = Rpc.ProposeRes (ballot h.number) (ballot h.accepted) (mark_of h.value) r
+promise_of h r = Rpc.ProposeRes (ballot h.number) (ballot h.accepted) (of_mark h.value) r
 
 abbrev pub acceptance_of : Head → Result Unit Error → Rpc
 acceptance_of h r = Rpc.AcceptRes (ballot h.number) r
@@ -67,7 +63,7 @@ known_in h =
     (cond (eqb h.kind 4) (Some Rpc.SetProposeAcceptors)
     (cond (eqb h.kind 5) (Some (Rpc.ProposeReq (ballot h.number)))
     (cond (eqb h.kind 6) (option_map (promise_of h) (verdict_of h))
-    (cond (eqb h.kind 7) (Some (Rpc.AcceptReq (ballot h.number) (mark_of h.value)))
+    (cond (eqb h.kind 7) (Some (Rpc.AcceptReq (ballot h.number) (of_mark h.value)))
     (cond (eqb h.kind 8) (option_map (acceptance_of h) (verdict_of h)) None)))))))
 
 -- a message that is for neither party: what numbers without a meaning are
@@ -79,10 +75,6 @@ message_in h = unwrap_or (known_in h) unknown
 
 -- ---- from a message to numbers
 
-abbrev pub mark_number : Option Lent → ℕ
-mark_number None = 0
-mark_number (Some mark) = 1
-
 abbrev pub plain : ℕ → ℕ → Head
 plain k n = record { kind = k; number = n; request = 0; value = 0; other = 0; accepted = 0; result = 0; last = 0 }
 
@@ -93,7 +85,7 @@ abbrev pub request_head : ℕ → Req → Head
 request_head id Req.Get = asking id 1 0 0
 request_head id Req.Del = asking id 2 0 0
 request_head id Req.Set = asking id 3 0 0
-request_head id (Req.Cas old new) = asking id 4 (mark_number old) (mark_number new)
+request_head id (Req.Cas old new) = asking id 4 (mark old) (mark new)
 
 -- a head with a result, its value's mark and its ballot
 abbrev pub failing : Head → ℕ → ℕ → ℕ → Head
@@ -112,7 +104,7 @@ failing h r o l =
 abbrev pub with_failure : Head → Error → Head
 with_failure h (Error.ProposalRejected b) = failing h 1 0 b.0
 with_failure h (Error.AcceptRejected b) = failing h 2 0 b.0
-with_failure h (Error.CasFailed o) = failing h 3 (mark_number o) 0
+with_failure h (Error.CasFailed o) = failing h 3 (mark o) 0
 with_failure h Error.Timeout = failing h 4 0 0
 
 abbrev pub with_result : Head → Result Unit Error → Head
@@ -120,7 +112,7 @@ with_result h (Ok done) = h
 with_result h (Err e) = with_failure h e
 
 abbrev pub carrying : ℕ → ℕ → ℕ → Option Lent → Head
-carrying k n a o = record { kind = k; number = n; request = 0; value = mark_number o; other = 0; accepted = a; result = 0; last = 0 }
+carrying k n a o = record { kind = k; number = n; request = 0; value = mark o; other = 0; accepted = a; result = 0; last = 0 }
 
 abbrev pub response_head : ℕ → Result (Option Lent) Error → Head
 response_head id (Ok o) = carrying 2 id 0 o
@@ -138,9 +130,9 @@ head_of (Rpc.AcceptRes b r) = with_result (plain 8 b.0) r
 
 -- ---- a message's numbers are that message again
 
-mark_back : (o : Option Lent) → mark_of (mark_number o) ≡ o
+mark_back : (o : Option Lent) → of_mark (mark o) ≡ o
 mark_back None = refl
-mark_back (Some mark) = refl
+mark_back (Some x) = refl
 
 pub message_back : (m : Rpc) → message_in (head_of m) ≡ m
 message_back (Rpc.ClientRequest id Req.Get) = refl

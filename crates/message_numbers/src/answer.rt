@@ -6,34 +6,50 @@ use super::head::{Head, ZEROS};
 use messages::Answer;
 
 // The numbers of include/mirkaspel.h: the answer's kind, the addressee, how many entries and rows, the lengths of the value and of the key,
-// and the head of the message.
-fn numbers(
+// and the head of the message. What a kind has no use for is 0.
+#[derive(Clone, Copy)]
+struct Numbers {
     kind: u64,
-    to: u64,
+    to: u16,
     entries: usize,
     rows: usize,
     value_len: usize,
     key_len: usize,
-    h: Head,
-) -> [u64; 14]
-    ensures { result ≡ answer_numbers kind to entries rows value_len key_len h }
-{
-    [
-        kind,
-        to,
-        entries as u64,
-        rows as u64,
-        value_len as u64,
-        key_len as u64,
-        h.kind,
-        h.number,
-        h.request,
-        h.value,
-        h.other,
-        h.accepted,
-        h.result,
-        h.last,
-    ]
+    head: Head,
+}
+
+// The answer that is nothing, which the others begin with.
+const NOTHING: Numbers = Numbers {
+    kind: 0,
+    to: 0,
+    entries: 0,
+    rows: 0,
+    value_len: 0,
+    key_len: 0,
+    head: ZEROS,
+};
+
+impl From<Numbers> for [u64; 14] {
+    ghost from_gives = { λ n w. w ≡ answer_numbers n.kind n.to n.entries n.rows n.value_len n.key_len n.head };
+
+    fn from(n: Numbers) -> [u64; 14] {
+        [
+            n.kind,
+            n.to.into(),
+            n.entries as u64,
+            n.rows as u64,
+            n.value_len as u64,
+            n.key_len as u64,
+            n.head.kind,
+            n.head.number,
+            n.head.request,
+            n.head.value,
+            n.head.other,
+            n.head.accepted,
+            n.head.result,
+            n.head.last,
+        ]
+    }
 }
 
 // The refusal's number, and 0 where the answer is none.
@@ -50,19 +66,35 @@ pub fn refusal_of(answer: Answer) -> u8
 pub fn hand_back(answer: Answer, out: &mut [u64; 14]) -> u8
     ensures { (result ≡ refusal_of answer) × (out.new ≡ numbers_after out.old answer) }
 {
-    *out = match answer {
-        Answer::Nothing => numbers(0, 0, 0, 0, 0, 0, ZEROS),
-        Answer::Message { to, rpc, value_len } => {
-            numbers(1, to.0 as u64, 0, 0, value_len, 0, Head::from(rpc))
-        }
+    let numbers = match answer {
+        Answer::Nothing => NOTHING,
+        Answer::Message { to, rpc, value_len } => Numbers {
+            kind: 1,
+            to: to.0,
+            value_len,
+            head: rpc.into(),
+            ..NOTHING
+        },
         Answer::Broadcast {
             rpc,
             entries,
             key_len,
             value_len,
-        } => numbers(2, 0, entries, 0, value_len, key_len, Head::from(rpc)),
-        Answer::Timeouts(rows) => numbers(3, 0, 0, rows, 0, 0, ZEROS),
+        } => Numbers {
+            kind: 2,
+            entries,
+            value_len,
+            key_len,
+            head: rpc.into(),
+            ..NOTHING
+        },
+        Answer::Timeouts(rows) => Numbers {
+            kind: 3,
+            rows,
+            ..NOTHING
+        },
         Answer::Refused(r) => return r.number(),
     };
+    *out = numbers.into();
     0
 }

@@ -1,9 +1,8 @@
 // A message in numbers, as a caller in C or Rust passes and takes it. Its bytes are lent beside it, as those of an Rpc.
 ghost use Rattle.std.specs.Prelude.{◌≡◌};
+ghost use Rattle.messages.specs.Message.{message_of, arrived};
 ghost use Rattle.message_numbers.specs.Heads.{
   head_in,
-  mark_of,
-  mark_number,
   verdict_of,
   request_of,
   known_in,
@@ -12,7 +11,7 @@ ghost use Rattle.message_numbers.specs.Heads.{
   head_of,
 };
 
-use messages::{Ballot, Error, Lent, Req, Rpc};
+use messages::{Ballot, Error, Incoming, Lent, Req, Rpc};
 
 // The numbers of include/mirkaspel.h: the kinds are 1 to 8 in the order of Rpc, the requests 1 to 4 in that of Req, the results 0 for Ok and
 // 1 to 4 for the errors in their order. A number that a kind has no use for is not looked at, and is 0 in an answer.
@@ -62,19 +61,6 @@ impl From<[u64; 8]> for Head {
     }
 }
 
-// A number of the header for a type of another crate, so no `From`: this and the next.
-fn mark_of(n: u64) -> Option<Lent>
-    ensures { result ≡ mark_of n }
-{
-    (n != 0).then_some(Lent)
-}
-
-fn mark_number(o: Option<Lent>) -> u64
-    ensures { result ≡ mark_number o }
-{
-    u64::from(o.is_some())
-}
-
 impl Head {
     // What the result's number says, if 01 has it.
     fn verdict(self) -> Option<Result<(), Error>>
@@ -85,7 +71,7 @@ impl Head {
             0 => Some(Ok(())),
             1 => Some(Err(Error::ProposalRejected { last })),
             2 => Some(Err(Error::AcceptRejected { last })),
-            3 => Some(Err(Error::CasFailed(mark_of(self.other)))),
+            3 => Some(Err(Error::CasFailed(Lent::of_mark(self.other)))),
             4 => Some(Err(Error::Timeout)),
             _ => None,
         }
@@ -100,8 +86,8 @@ impl Head {
             2 => Some(Req::Del),
             3 => Some(Req::Set),
             4 => Some(Req::Cas {
-                old: mark_of(self.value),
-                new: mark_of(self.other),
+                old: Lent::of_mark(self.value),
+                new: Lent::of_mark(self.other),
             }),
             _ => None,
         }
@@ -112,13 +98,10 @@ impl Head {
         ensures { result ≡ known_in self }
     {
         let ballot = Ballot(self.number);
-        let value = mark_of(self.value);
+        let value = Lent::of_mark(self.value);
         match self.kind {
             1 => Some(Rpc::ClientRequest(self.number, self.request()?)),
-            2 => match self.verdict()? {
-                Ok(_) => Some(Rpc::ClientResponse(self.number, Ok(value))),
-                Err(e) => Some(Rpc::ClientResponse(self.number, Err(e))),
-            },
+            2 => Some(Rpc::ClientResponse(self.number, self.verdict()?.and(Ok(value)))),
             3 => Some(Rpc::SetAcceptAcceptors),
             4 => Some(Rpc::SetProposeAcceptors),
             5 => Some(Rpc::ProposeReq(ballot)),
@@ -154,7 +137,7 @@ impl Head {
             },
             Err(Error::CasFailed(o)) => Head {
                 result: 3,
-                other: mark_number(o),
+                other: Lent::mark(o).into(),
                 last: 0,
                 ..self
             },
@@ -179,6 +162,26 @@ impl From<Head> for Rpc {
     }
 }
 
+// The message of eight numbers, with what is lent beside it.
+pub fn incoming<'a>(
+    message: &[u64; 8],
+    key: &'a [u8],
+    value: &'a [u8],
+    other: &'a [u8],
+    list: &'a [u16],
+) -> Incoming<'a>
+    ensures { arrived result ≡ message_of (message_in (head_in message.now)) key.now value.now other.now list.now }
+{
+    let head = Head::from(*message);
+    Incoming {
+        rpc: Rpc::from(head),
+        key,
+        value,
+        other,
+        list,
+    }
+}
+
 // The head of a message.
 impl From<Rpc> for Head {
     ghost from_gives = { λ rpc h. h ≡ head_of rpc };
@@ -190,7 +193,7 @@ impl From<Rpc> for Head {
                     Req::Get => (1, 0, 0),
                     Req::Del => (2, 0, 0),
                     Req::Set => (3, 0, 0),
-                    Req::Cas { old, new } => (4, mark_number(old), mark_number(new)),
+                    Req::Cas { old, new } => (4, Lent::mark(old).into(), Lent::mark(new).into()),
                 };
                 Head {
                     kind: 1,
@@ -204,7 +207,7 @@ impl From<Rpc> for Head {
             Rpc::ClientResponse(id, Ok(o)) => Head {
                 kind: 2,
                 number: id,
-                value: mark_number(o),
+                value: Lent::mark(o).into(),
                 ..ZEROS
             },
             Rpc::ClientResponse(id, Err(e)) => Head {
@@ -228,7 +231,7 @@ impl From<Rpc> for Head {
             } => Head {
                 kind: 6,
                 number: req_ballot.0,
-                value: mark_number(last_accepted_value),
+                value: Lent::mark(last_accepted_value).into(),
                 accepted: last_accepted_ballot.0,
                 ..ZEROS
             }
@@ -236,7 +239,7 @@ impl From<Rpc> for Head {
             Rpc::AcceptReq(b, o) => Head {
                 kind: 7,
                 number: b.0,
-                value: mark_number(o),
+                value: Lent::mark(o).into(),
                 ..ZEROS
             },
             Rpc::AcceptRes(b, res) => Head {

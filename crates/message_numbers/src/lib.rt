@@ -5,4 +5,4 @@ mod answer;
 mod head;
 
 pub use answer::{hand_back, refusal_of};
-pub use head::Head;
+pub use head::{Head, incoming};

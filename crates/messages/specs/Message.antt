@@ -1,6 +1,6 @@
 -- The eight messages of the crate's `Rpc`, with their keys, values and lists; and which of them an enum of the code is, with the bytes that are lent beside it.
 -- Assumes nothing.
-use Rattle.std.specs.Prelude.{List, ℕ, get_or, Option, None, Some, Result, Ok, Err}
+use Rattle.std.specs.Prelude.{cond, List, ℕ, eqb, get_or, Option, None, Some, Result, Ok, Err}
 use Rattle.messages.specs.declared.Address.{Address}
 use Rattle.messages.specs.declared.Place.{Place}
 use Rattle.messages.specs.declared.Ballot.{Ballot}
@@ -59,6 +59,14 @@ lent = record {}
 abbrev pub given : Option Lent → Value → Option Value
 given None v = None
 given (Some x) v = Some v
+
+-- the mark of a value that may be missing, and what a mark says: 0 is no value, any other number a value
+abbrev pub mark : Option Lent → ℕ
+mark None = 0
+mark (Some x) = 1
+
+abbrev pub of_mark : ℕ → Option Lent
+of_mark n = cond (eqb n 0) None (Some lent)
 
 abbrev pub request_of : Req → Key → Value → Value → Request
 request_of Req.Get k v w = Request.Get k

@@ -15,8 +15,11 @@ pub const ROWS_AT: usize = 350;
 
 pub const ROW: usize = 10;
 
-// An answer of 01, of which a refusal is one. The bytes of its message stand in the lent answer area (docs/LAYOUT.md): the value at its front, then the key, the
-// entries that a broadcast goes to, and the rows of timeouts. specs/Answers.antt says which answer an enum and an area are.
+// An answer of 01, of which a refusal is one ("An answer is one of: nothing, one message .., or a refusal"): so it is a case here and no `Err`
+// around the others, as `Told` and `said` have it. The bytes of its message stand in the lent answer area (docs/LAYOUT.md): the value at its
+// front, then the key, the entries that a broadcast goes to, and the rows of timeouts. The enum has lengths and no slices of it, since a C
+// caller is handed the lengths (include/mirkaspel.h), and an answer that borrowed the area would keep it lent (docs/DECISIONS.md).
+// specs/Answers.antt says which answer an enum and an area are.
 #[derive(Clone, Copy, PartialEq, Eq)]
 pub enum Answer {
     Nothing,
@@ -35,33 +38,33 @@ pub enum Answer {
     Refused(Refusal),
 }
 
-// 01's refusals by name, in the order of its table.
+// 01's refusals by name, with its numbers.
 #[derive(Clone, Copy, PartialEq, Eq)]
 pub enum Refusal {
     // a lent area isn't the size for its capacity, or the capacity is outside the limits
-    AreaSize,
+    AreaSize = 1,
     // a block is neither free nor good, two blocks hold the key, or an area is no image of a state
-    Damaged,
+    Damaged = 2,
     // the kind isn't for this party
-    WrongKind,
+    WrongKind = 3,
     // key, value or list too long, or address 0
-    OverLimit,
+    OverLimit = 4,
     // AcceptRes for a request in its first phase
-    FirstPhase,
+    FirstPhase = 5,
     // the sender has answered in this phase
-    Repeated,
+    Repeated = 6,
     // the sender isn't waited for
-    NotWaitedFor,
+    NotWaitedFor = 7,
     // an error of another kind than the phase has
-    ForeignError,
+    ForeignError = 8,
     // Ok promise while the request's ballot isn't above the highest promised
-    PromisedAbove,
+    PromisedAbove = 9,
     // a new ballot is needed and the counter is used up
-    CounterUsedUp,
+    CounterUsedUp = 10,
     // a block or a pending place is needed and none is free
-    NoRoom,
+    NoRoom = 11,
     // a tick earlier than some pending arrival
-    ClockBack,
+    ClockBack = 12,
 }
 
 impl Refusal {
@@ -69,19 +72,6 @@ impl Refusal {
     pub fn number(self) -> u8
         ensures { result ≡ number self }
     {
-        match self {
-            Refusal::AreaSize => 1,
-            Refusal::Damaged => 2,
-            Refusal::WrongKind => 3,
-            Refusal::OverLimit => 4,
-            Refusal::FirstPhase => 5,
-            Refusal::Repeated => 6,
-            Refusal::NotWaitedFor => 7,
-            Refusal::ForeignError => 8,
-            Refusal::PromisedAbove => 9,
-            Refusal::CounterUsedUp => 10,
-            Refusal::NoRoom => 11,
-            Refusal::ClockBack => 12,
-        }
+        self as u8
     }
 }

@@ -9,7 +9,7 @@ mod limits;
 
 ghost use Rattle.std.specs.Prelude.{◌≡◌, length};
 ghost use Rattle.messages.specs.Ballots.{above};
-ghost use Rattle.messages.specs.Message.{given, listed_at};
+ghost use Rattle.messages.specs.Message.{given, listed_at, mark, of_mark};
 ghost use Rattle.messages.specs.Answers.{bytes_of};
 ghost use Rattle.messages.specs.Errors.{
   rejected_accept,
@@ -37,7 +37,7 @@ pub struct Place(pub usize);
 pub struct Ballot(pub u64);
 
 impl Ballot {
-    // The one comparison of ballots: whether this one is above the other.
+    // The one comparison of ballots, whether this one is above the other, under the name by which every rule cites it (specs/Ballots.antt).
     pub fn above(self, other: Ballot) -> bool
         ensures { result ≡ above self other }
     {
@@ -45,9 +45,27 @@ impl Ballot {
     }
 }
 
-// A value's bytes, lent beside the message: `Option<Lent>` is the crate's Option<Value>. No value differs from the empty value.
+// A value's bytes, lent beside the message: `Option<Lent>` is the crate's Option<Value>, and no `Option<&[u8]>`, since an enum holds no bytes
+// (docs/DECISIONS.md). No value differs from the empty value.
 #[derive(Clone, Copy, PartialEq, Eq)]
 pub struct Lent;
+
+// A value that may be missing has a mark in blocks, places and heads. `Option` is another crate's type, so the two are no `From`.
+impl Lent {
+    // 1 for a value, 0 for none.
+    pub fn mark(value: Option<Lent>) -> u8
+        ensures { result ≡ mark value }
+    {
+        u8::from(value.is_some())
+    }
+
+    // 0 is no value, any other number a value.
+    pub fn of_mark(mark: u64) -> Option<Lent>
+        ensures { result ≡ of_mark mark }
+    {
+        (mark != 0).then_some(Lent)
+    }
+}
 
 #[derive(Clone, Copy, PartialEq, Eq)]
 pub enum Req {
@@ -153,8 +171,5 @@ pub fn address_at(list: &[u16], place: Place) -> Address
 pub fn present(value: Option<Lent>, bytes: &[u8]) -> &[u8]
     ensures { result.now ≡ bytes_of (given value bytes.now) }
 {
-    match value {
-        None => &bytes[0..0],
-        Some(_) => bytes,
-    }
+    value.map_or(&[], |_| bytes)
 }

@@ -43,10 +43,7 @@ fn value_fits(value: &[u8]) -> bool
 fn option_fits(o: Option<Lent>, value: &[u8]) -> bool
     ensures { result ≡ option_fits (given o value.now) }
 {
-    match o {
-        None => true,
-        Some(_) => value_fits(value),
-    }
+    o.is_none() || value_fits(value)
 }
 
 fn error_fits(e: Error, value: &[u8]) -> bool
@@ -61,10 +58,7 @@ fn error_fits(e: Error, value: &[u8]) -> bool
 fn res_fits(res: Result<(), Error>, other: &[u8]) -> bool
     ensures { result ≡ result_fits (result_of res other.now) }
 {
-    match res {
-        Ok(_) => true,
-        Err(e) => error_fits(e, other),
-    }
+    res.err().is_none_or(|e| error_fits(e, other))
 }
 
 fn response_fits(response: Result<Option<Lent>, Error>, value: &[u8], other: &[u8]) -> bool

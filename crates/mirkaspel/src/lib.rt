@@ -1,5 +1,5 @@
 // The parties' operations for callers in C and Rust, with a message and an answer in numbers. Any numbers and bytes are taken. Crate
-// mirkaspel_c exports them, and include/mirkaspel.h declares them.
+// mirkaspel_c exports them, and include/mirkaspel.h declares them: its parameters one by one, so no struct has those that go together.
 #![tactic(auto)]
 
 ghost use Rattle.std.specs.Prelude.{◌≡◌};
@@ -10,8 +10,8 @@ ghost use Rattle.proposer.specs.Contract.{outcome_on, tick_on, start_on, Done, S
 ghost use Rattle.message_numbers.specs.Heads.{head_in, message_in};
 ghost use Rattle.mirkaspel.specs.Contract.{Numbered, HandedBack};
 
-use message_numbers::{Head, hand_back, refusal_of};
-use messages::{Address, Incoming, Rpc};
+use message_numbers::{hand_back, incoming, refusal_of};
+use messages::Address;
 
 // `acceptor::receive`.
 pub fn mirkaspel_acceptor_receive(
@@ -28,14 +28,7 @@ pub fn mirkaspel_acceptor_receive(
 ) -> u8
     ensures { HandedBack (λ (a : Answer). Received table.old registers sent.old (record { 0 = from }) (message_of (message_in (head_in message.now)) key.now value.now other.now list.now) a table.new sent.new) answer.old result answer.new }
 {
-    let head = Head::from(*message);
-    let message = Incoming {
-        rpc: Rpc::from(head),
-        key,
-        value,
-        other,
-        list,
-    };
+    let message = incoming(message, key, value, other, list);
     let a = acceptor::receive(table, registers, Address(from), message, sent);
     hand_back(a, answer)
 }
@@ -63,14 +56,7 @@ pub fn mirkaspel_proposer_receive(
 ) -> u8
     ensures { HandedBack (λ (a : Answer). Done area.old sent.old (outcome_on area.old places sent.old (record { 0 = from }) at (message_of (message_in (head_in message.now)) key.now value.now other.now list.now)) a area.new sent.new) answer.old result answer.new }
 {
-    let head = Head::from(*message);
-    let message = Incoming {
-        rpc: Rpc::from(head),
-        key,
-        value,
-        other,
-        list,
-    };
+    let message = incoming(message, key, value, other, list);
     let a = proposer::receive(area, places, Address(from), at, message, sent);
     hand_back(a, answer)
 }

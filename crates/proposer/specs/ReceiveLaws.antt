@@ -1,6 +1,6 @@
 -- The public operations: refusals 1 and 2 of their lent areas, and the works on an area that is an image.
 -- Assumes nothing.
-use Rattle.std.specs.Prelude.{◌≡◌, Bool, true, false, not, cond, ◌&&◌, List, [], ◌∷◌, ℕ, eqb, length}
+use Rattle.std.specs.Prelude.{◌≡◌, Bool, true, false, not, ◌&&◌, List, [], ◌∷◌, ℕ, eqb, length}
 use Rattle.std.proofs.Math.Path.{refl, sym}
 use Rattle.std.proofs.Common.{ap, ◌∙◌, eqb-true, subst}
 use Rattle.std.proofs.lemmas.Option.{none-some}
@@ -10,18 +10,16 @@ use Rattle.messages.specs.declared.Address.{Address}
 use Rattle.messages.specs.declared.answer.Answer.{Answer}
 use Rattle.messages.specs.declared.answer.Refusal.{Refusal}
 use Rattle.messages.specs.Message.{Message}
-use Rattle.messages.specs.Limits.{list_fits, within_limits}
 use Rattle.messages.specs.Refusals.{test, first_due}
 use Rattle.messages.specs.Answers.{Told, nothing, one, each, timeouts, refused}
 use Rattle.proposer_rules.specs.State.{Proposer}
-use Rattle.proposer_rules.specs.Rules.{Outcome, unless, foreign, message_tests, work, receive, tick, start}
+use Rattle.proposer_rules.specs.Rules.{Outcome, unless, receive, tick}
 use Rattle.proposer_place.specs.Area.{area_image, read_area, sized, may_be_lent, is_image}
 use Rattle.proposer_place.specs.AreaRead.{image_lent}
 use Rattle.proposer_area.specs.Held.{Held}
 use Rattle.proposer_area.specs.HeldLaws.{image_held}
-use Rattle.proposer.specs.Contract.{area_tests, outcome_on, tick_on, start_on, area_after, Done, Started}
+use Rattle.proposer.specs.Contract.{area_tests, outcome_on, tick_on, area_after, Done}
 use Rattle.proposer_works.specs.Works.{answer_bytes, Worked}
-use Rattle.proposer_works.specs.WorksLaws.{refused_work, due_none}
 use Rattle.proposer.specs.Refused.{Keeps, message_keeps, tick_keeps}
 
 -- ---- refusals 1 and 2
@@ -83,41 +81,3 @@ module _ (a w : List ℕ) (n : ℕ) (t : Option Refusal) (et : t ≡ first_due (
 -- a lent slice ends as what was left behind the reference of its name
 pub left_behind : (a w : List ℕ) (o : Outcome) (r : Answer) (x y w' : List ℕ) (g h : ℕ) → (g ≡ h → x ≡ y) → h ≡ g → Done a w o r y w' → Done a w o r x w'
 left_behind a w o r x y w' g h ends same done-there = subst (λ (z : List ℕ). Done a w o r z w') (sym (ends (sym same))) done-there
-
--- ---- the start
-
-module _ (a : List ℕ) (n t : ℕ) (l : List ℕ) (s : Bool) (es : s ≡ sized a n) where
-  pub start_size : s ≡ false → Started a (start_on a n t l) (Answer.Refused Refusal.AreaSize) a
-  unfolding start_on
-  start_size h = rw (sym es ∙ h) record { answer = refl; area = refl }
-
-  pub start_over : (f : Bool) → s ≡ true → f ≡ list_fits l → f ≡ false → Started a (start_on a n t l) (Answer.Refused Refusal.OverLimit) a
-  unfolding start_on
-  start_over f h ef over = rw (sym es ∙ h, sym ef ∙ over) record { answer = refl; area = refl }
-
-  pub start_done : (f : Bool) (a' : List ℕ) → s ≡ true → f ≡ list_fits l → f ≡ true → a' ≡ area_image (start t l n) → Started a (start_on a n t l) Answer.Nothing a'
-  unfolding start_on
-  start_done f a' h ef fits e = rw (sym es ∙ h, sym ef ∙ fits) record { answer = refl; area = e }
-
--- ---- a message's kind and limits
-
-module _ (a w : List ℕ) (n : ℕ) (from : Address) (at : ℕ) (m : Message) (held : Held a n) where
-  pub wrong_kind : foreign m ≡ true → Worked w (receive (read_area a n) from at m) (Answer.Refused Refusal.WrongKind) a w
-  unfolding receive
-  wrong_kind h = refused_work a w (read_area a n) (first_due (message_tests from m)) (work (read_area a n) from at m) Refusal.WrongKind held.image (rw h)
-
-  pub over_limit : (fits : Bool) → foreign m ≡ false → fits ≡ within_limits from m → fits ≡ false → Worked w (receive (read_area a n) from at m) (Answer.Refused Refusal.OverLimit) a w
-  unfolding receive
-  over_limit fits own ef over = refused_work a w (read_area a n) (first_due (message_tests from m)) (work (read_area a n) from at m) Refusal.OverLimit held.image (rw (own, sym ef ∙ over))
-
-  -- a wrong kind ranks before the limits
-  pub beyond_limits : (fits : Bool) (r : Refusal) → r ≡ cond (foreign m) Refusal.WrongKind Refusal.OverLimit → fits ≡ within_limits from m → fits ≡ false → Worked w (receive (read_area a n) from at m) (Answer.Refused r) a w
-  beyond_limits fits r er ef over = rw er (by (foreign m) refl)
-    where
-      by : (z : Bool) → foreign m ≡ z → Worked w (receive (read_area a n) from at m) (Answer.Refused (cond z Refusal.WrongKind Refusal.OverLimit)) a w
-      by true e = wrong_kind e
-      by false e = over_limit fits e ef over
-
-  pub taken_in_lem : (fits : Bool) (r : Answer) (a' w' : List ℕ) → foreign m ≡ false → fits ≡ within_limits from m → fits ≡ true → Worked w (work (read_area a n) from at m) r a' w' → Worked w (receive (read_area a n) from at m) r a' w'
-  unfolding receive
-  taken_in_lem fits r a' w' own ef within h = due_none w (read_area a n) (first_due (message_tests from m)) (work (read_area a n) from at m) r a' w' (rw (own, sym ef ∙ within)) h

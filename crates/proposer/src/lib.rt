@@ -23,8 +23,11 @@ ghost use Rattle.proposer_works.specs.Works.{answer_bytes, WorkedOn};
 pub use messages::{ENTRIES_AT, KEY_AT, ROW, ROWS_AT};
 use messages::{Address, Answer, Incoming, Refusal, Rpc};
 use proposer_area::Area;
+use proposer_place::Accepted;
+use proposer_request::Order;
 
 // The start: counter 0, nothing pending, and one given list as both lists. Refusals are 1 and 4.
+#[tactic(auto, unfolding(crate::specs::Contract::start_on))]
 pub fn start(area: &mut [u8], places: usize, timeout: u64, list: &[u16]) -> Answer
     ensures { Started area.old (start_on area.old places timeout list.now) result area.new }
 {
@@ -38,14 +41,17 @@ pub fn start(area: &mut [u8], places: usize, timeout: u64, list: &[u16]) -> Answ
     Answer::Nothing
 }
 
-// Refusal 1 or 2, where it is due to what is lent: an area of that many places, and an answer area.
+// Refusal 1 or 2, where it is due to what is lent: an area of that many places, and an answer area. Tried: a function that answers the `Area`
+// or the refusal; its caller is told what becomes of the area by an `ensures*` (`RestsIfErr`), which the check proves only of a body that hands
+// on a field or a call's result (`lent_spec` stayed open).
+#[tactic(auto, using(std::proofs::lemmas::Bool::Decides::nat_tests), unfolding(proposer_place::specs::Area::sized))]
 fn refused(area: &[u8], places: usize, answer: &[u8]) -> Option<Refusal>
     ensures { result ≡ first_due (area_tests area.now places answer.now) }
 {
     if !proposer_area::is_sized(area, places) || answer.len() != ROWS_AT + ROW * places {
         return Some(Refusal::AreaSize);
     }
-    if !proposer_image::is_image(area, places) {
+    if !proposer_image::is_image(area) {
         return Some(Refusal::Damaged);
     }
     None
@@ -84,6 +90,7 @@ fn over_limit(rpc: Rpc) -> Refusal
 }
 
 // The same on an area that is an image.
+#[tactic(auto, unfolding(proposer_rules::specs::Rules::receive, messages::specs::Limits::within_limits))]
 fn work(area: &mut Area<'_>, from: Address, at: u64, message: Incoming, answer: &mut [u8]) -> Answer
     requires { (length answer.old ≡ answer_bytes area.old.places) × (may_be_lent (state area.old) ≡ true) }
     ensures { WorkedOn area.old answer.old (Rules.receive (state area.old) from at (arrived message.entry)) result area.new answer.new }
@@ -100,7 +107,8 @@ fn work(area: &mut Area<'_>, from: Address, at: u64, message: Incoming, answer: 
     } = message;
     match rpc {
         Rpc::ClientRequest(id, req) => {
-            proposer_request::request(area, from, at, id, req, key, value, other, answer)
+            let order = Order::of(req, key, value, other);
+            proposer_request::request(area, from, at, id, order, answer)
         }
         Rpc::SetAcceptAcceptors => {
             proposer_lists::set_accept(area, list);
@@ -115,16 +123,10 @@ fn work(area: &mut Area<'_>, from: Address, at: u64, message: Incoming, answer: 
             last_accepted_ballot,
             last_accepted_value,
             res,
-        } => proposer_promise::promise(
-            area,
-            from,
-            req_ballot,
-            last_accepted_ballot,
-            last_accepted_value,
-            value,
-            res,
-            answer,
-        ),
+        } => {
+            let accepted = Accepted::of(last_accepted_ballot, last_accepted_value, value);
+            proposer_promise::promise(area, from, req_ballot, accepted, res, answer)
+        }
         Rpc::AcceptRes(ballot, res) => {
             proposer_acceptance::acceptance(area, from, ballot, res, answer)
         }

@@ -1,11 +1,9 @@
 // `AcceptRes`: acceptances and refused ones of the second phase.
 #![tactic(auto)]
 
-ghost use Rattle.std.specs.Prelude.{◌≡◌, true, cond, List, ℕ, ◌≤◌, length, Ok, Err};
-ghost use Rattle.std.proofs.lemmas.List.Edits.{sets};
+ghost use Rattle.std.specs.Prelude.{◌≡◌, true, cond, List, ℕ, length, Ok, Err};
 ghost use Rattle.messages.specs.Message.{Failure, Verdict, result_of};
-ghost use Rattle.messages.specs.Limits.{value_most};
-ghost use Rattle.messages.specs.Answers.{bytes_of};
+ghost use Rattle.messages.specs.Answers.{marked};
 ghost use Rattle.proposer_rules.specs.Rules.{
   pending_at,
   acceptance_work,
@@ -17,29 +15,20 @@ ghost use Rattle.proposer_area.specs.State.{state, pending, HasPending};
 ghost use Rattle.proposer_works.specs.Works.{answer_bytes, MayAsk, WorkedOn, settled};
 
 use messages::{Address, Answer, Ballot, Error, Lent, Refusal, Rpc};
-use proposer_area::{Area, HEADER};
+use proposer_area::Area;
 use proposer_change::Change;
-use proposer_place::{PLACE, PROMISED, Phase, VALUES};
-use proposer_works::{drop_with, raise_with, short_of};
+use proposer_place::Phase;
+use proposer_works::{drop_with, noted, short_of};
 
-// The new value, put into the answer area; how long it is. Where a compare fails this is the promised value.
-fn tell_new(answer: &mut [u8], change: Change) -> usize
-    requires { (value_most ≤ length answer.old) × (length (bytes_of (applied_in change).value) ≤ value_most) }
-    ensures { (result ≡ length (bytes_of (applied_in change.entry).value)) × (answer.new ≡ sets answer.old 0 (bytes_of (applied_in change.entry).value)) }
+// What a client is told of its request: the new value, or a failed compare with the promised one, which then is the new value too.
+fn response(change: Change) -> Result<Option<Lent>, Error>
+    ensures { let new = applied_in change.entry in result ≡ cond new.failed (Err (Error.CasFailed (marked new.value))) (Ok (marked new.value)) }
 {
-    let value = change.new_value();
-    leaf_fields::copy(answer, 0, value);
-    value.len()
-}
-
-// What a client is told of its request: the new value, or a failed compare with the promised one.
-fn response(failed: bool, mark: Option<Lent>) -> Result<Option<Lent>, Error>
-    ensures { result ≡ cond failed (Err (Error.CasFailed mark)) (Ok mark) }
-{
-    if failed {
-        return Err(Error::CasFailed(mark));
+    let new = change.new_mark();
+    if change.cas_failed() {
+        return Err(Error::CasFailed(new));
     }
-    Ok(mark)
+    Ok(new)
 }
 
 // The request at place i is settled: it is dropped and its client told.
@@ -47,27 +36,17 @@ fn settle(area: &mut Area<'_>, i: usize, answer: &mut [u8]) -> Answer
     requires { (length answer.old ≡ answer_bytes area.old.places) × HasPending area.old i }
     ensures { WorkedOn area.old answer.old (settled (state area.old) i (pending area.old i)) result area.new answer.new }
 {
-    let f = proposer_area::take_place(area, i);
-    let place = HEADER + PLACE * i;
-    let values = place + VALUES;
-    let both = values + f.first_len + f.second_len;
-    let promised = place + PROMISED;
-    let end = promised + f.value_len;
-    let bytes = area.bytes();
-    let change = Change {
-        req: f.req,
-        request: &bytes[values..both],
-        split: f.first_len,
-        mark: f.mark,
-        promised: &bytes[promised..end],
-    };
-    let failed = change.cas_failed();
-    let new = change.new_mark();
-    let len = tell_new(answer, change);
+    let request = proposer_works::request_at(area, i);
+    let f = request.front;
+    let change = request.change();
+    let told = response(change);
+    let value = change.new_value();
+    let len = value.len();
+    leaf_fields::copy(answer, 0, value);
     proposer_area::drop_place(area.bytes, i);
     Answer::Message {
         to: f.client,
-        rpc: Rpc::ClientResponse(f.id, response(failed, new)),
+        rpc: Rpc::ClientResponse(f.id, told),
         value_len: len,
     }
 }
@@ -90,14 +69,10 @@ fn turned_down(area: &mut Area<'_>, i: usize, from: Address, last: Ballot) -> An
     requires { MayAsk area.old i }
     ensures { (w : List ℕ) → WorkedOn area.old w (acceptance_work (state area.old) (pending area.old i) from (Verdict.Denied (Failure.AcceptRejected last))) result area.new w }
 {
-    let h = area.header();
-    let f = proposer_area::take_place(area, i);
-    let counter = h.counter.max(last.0);
-    if short_of(f.nacks_from + 1, f.waiting_for) {
-        raise_with(area, i, counter, from);
-        return Answer::Nothing;
+    match noted(area, i, from, last) {
+        Some(counter) => drop_with(area, i, counter, Error::AcceptRejected { last }),
+        None => Answer::Nothing,
     }
-    drop_with(area, i, counter, Error::AcceptRejected { last })
 }
 
 // An answer to an accept request, within the limits.
@@ -114,15 +89,12 @@ pub fn acceptance(
     let Some(i) = proposer_area::find(area, ballot) else {
         return Answer::Nothing;
     };
-    let f = proposer_area::take_place(area, i);
-    if let Phase::Propose = f.phase {
+    let request = proposer_works::request_at(area, i);
+    if let Phase::Propose = request.front.phase {
         return Answer::Refused(Refusal::FirstPhase);
     }
-    if proposer_area::has_answered(area, i, f, from) {
-        return Answer::Refused(Refusal::Repeated);
-    }
-    if !proposer_area::is_waited_for(area, i, f, from) {
-        return Answer::Refused(Refusal::NotWaitedFor);
+    if let Some(refusal) = request.refused(from) {
+        return Answer::Refused(refusal);
     }
     match res {
         Ok(_) => taken(area, i, from, answer),

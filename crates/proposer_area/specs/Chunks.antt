@@ -4,8 +4,7 @@ use Rattle.std.specs.Prelude.{◌≡◌, refl, Bool, true, false, cond, not, ◌
 use Rattle.std.proofs.Common.{ap, sym, ◌∙◌, drop-drop, eqb, ltb-true, ltb-false}
 use lib.Dec.{ltb}
 use Rattle.std.proofs.lemmas.List.Sums.{prefix_len-le-length}
-use Rattle.std.proofs.Math.Nat.{sub-zero}
-use Prim.Native.Nat.{ℕ, zero, suc, ◌+◌, ◌-◌, ◌*◌, ◌≤◌, ◌<◌}
+use Prim.Native.Nat.{ℕ, zero, suc, ◌+◌, ◌≤◌, ◌<◌}
 use native.Mathlib.Omega.{arith}
 use Rattle.std.specs.Simd.{first_chunks}
 use Rattle.std.specs.List.{list_any, position, position_or_len}
@@ -15,7 +14,7 @@ use Rattle.messages.specs.declared.Ballot.{Ballot}
 use Rattle.proposer_rules.specs.Rules.{is_ballot}
 use Rattle.proposer_rules.specs.State.{Pending, listed}
 use Rattle.proposer_place.specs.Area.{header_bytes, place_bytes, area_bytes, used_at, read_pending, read_place, read_places, ballots_of, sized}
-use Rattle.proposer_area.specs.Places.{place_at, places_in, place_of, free_of}
+use Rattle.proposer_area.specs.Places.{places_in, place_of, free_of}
 use Rattle.proposer_area.specs.Turns.{sized_of, passes, used_passes}
 
 pub length-chunks : (m k : ℕ) (xs : List ℕ) → length (first_chunks m k xs) ≡ k
@@ -30,22 +29,6 @@ chunks_read a at (suc n) =
 
 pub places_read : (a : List ℕ) (n : ℕ) → read_places a header_bytes n ≡ map read_place (places_in a n)
 places_read a n = chunks_read a header_bytes n
-
-drop_chunks : (m k f : ℕ) (xs : List ℕ) → drop f (first_chunks m k xs) ≡ first_chunks m (k - f) (drop (m * f) xs)
-drop_chunks m k zero xs =
-    let e : m * 0 ≡ 0 = omega arith in
-    rw (e, sub-zero)
-drop_chunks m zero (suc f) xs =
-    let e : 0 - suc f ≡ 0 = omega arith in
-    rw e
-drop_chunks m (suc k) (suc f) xs =
-    let e : suc k - suc f ≡ k - f = omega arith in
-    let b : m + m * f ≡ m * suc f = grind arith in
-    rw (e, ← b, ← drop-drop (m * f) m xs) (drop_chunks m k f (drop m xs))
-
--- those from place f on
-pub places_behind : (a : List ℕ) (n f : ℕ) → read_places a (place_at f) (n - f) ≡ map read_place (drop f (places_in a n))
-places_behind a n f = rw (drop_chunks 976 n f (drop 80 a), drop-drop (976 * f) 80 a) (chunks_read a (place_at f) (n - f))
 
 -- of an area of that size
 pub chunks_all : (a : List ℕ) (n : ℕ) (l : List (List ℕ)) → sized a n ≡ true → ((k : ℕ) → length a ≡ area_bytes k → l ≡ places_in a k) → (l ≡ places_in a n) × (length l ≡ n)

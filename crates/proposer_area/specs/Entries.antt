@@ -1,18 +1,16 @@
 -- The entries of a list as chunks of two bytes.
 -- Assumes nothing.
-use Rattle.std.specs.Prelude.{◌≡◌, refl, ◌||◌, List, [], ◌∷◌, map, eqb, take, drop, length}
-use Rattle.std.proofs.Common.{ap, ◌∙◌, take-take, drop-drop}
+use Rattle.std.specs.Prelude.{◌≡◌, refl, ◌||◌, List, [], ◌∷◌, eqb, take, drop, length}
+use Rattle.std.proofs.Common.{ap, sym, ◌∙◌, take-take, drop-drop}
 use Rattle.std.proofs.lemmas.List.{drop-take}
-use Prim.Native.Nat.{ℕ, zero, suc, ◌+◌, ◌*◌, ◌≤◌}
+use Prim.Native.Nat.{ℕ, zero, suc, ◌+◌, ◌-◌, ◌*◌, ◌≤◌}
 use native.Mathlib.Omega.{arith}
 use Rattle.std.specs.List.{list_any}
 use Rattle.std.specs.Simd.{first_chunks}
 use Rattle.leaf_fields.specs.Fields.{from_le, part}
 use Rattle.messages.specs.Answers.{entries}
 use Rattle.proposer_rules.specs.State.{listed}
-
-abbrev pub numbers : List (List ℕ) → List ℕ
-numbers l = map (λ e. from_le (part e 0 2)) l
+use Rattle.proposer_place.specs.Rows.{numbers}
 
 chunks_are : (n : ℕ) (s : List ℕ) (at : ℕ) → numbers (first_chunks 2 n (take (2 * n) (drop at s))) ≡ entries s at n
 unfolding entries
@@ -30,3 +28,9 @@ pub listed_entry : (a : ℕ) (l : List (List ℕ)) → list_any (λ e. eqb (from
 unfolding listed
 listed_entry a [] = refl
 listed_entry a (e ∷ l) = ap (λ r. eqb (from_le (part e 0 2)) a || r) (listed_entry a l)
+
+-- the entries of a part that begins there
+pub entries_lent : (s : List ℕ) (at n : ℕ) → entries (take (at + 2 * n - at) (drop at s)) 0 n ≡ entries s at n
+entries_lent s at n =
+    let many : at + 2 * n - at ≡ 2 * n = omega arith in
+    rw many (sym (chunks_are n (take (2 * n) (drop at s)) 0) ∙ ap (λ l. numbers (first_chunks 2 n l)) (take-take (2 * n) (2 * n) (drop at s) (omega arith)) ∙ chunks_are n s at)

@@ -1,24 +1,23 @@
 -- What holds of an area that is an image: its size, its places, and the area with another counter or another place.
 -- Assumes nothing.
-use Rattle.std.specs.Prelude.{◌≡◌, true, List, [], ◌∷◌, ℕ, zero, suc, ◌+◌, ◌-◌, ◌*◌, ◌^◌, ◌≤◌, ◌<◌, length, get_or, set, take, drop}
+use Rattle.std.specs.Prelude.{◌≡◌, true, List, [], ℕ, ◌+◌, ◌-◌, ◌*◌, ◌^◌, ◌≤◌, ◌<◌, length, get_or, set, take, drop}
 use Rattle.std.proofs.Math.Path.{refl, sym, ap}
-use Rattle.std.proofs.Common.{subst, ◌∙◌, append-nil, zero-add, suc-add, le-leb, eq-eqb, length-append, take-take, drop-drop}
-use Rattle.std.specs.Prelude.{Option, None, Some}
+use Rattle.std.proofs.Common.{subst, ◌∙◌, append-nil, le-leb, eq-eqb}
+use Rattle.std.specs.Prelude.{Option, None}
 use native.Mathlib.Omega.{arith}
 use Rattle.std.proofs.lemmas.List.Edits.{sets}
-use Rattle.std.proofs.Math.Seq.{take-nil, drop-nil}
 use Rattle.leaf_fields.specs.Fields.{to_le, part, byte, Bytes}
 use Rattle.messages.specs.Limits.{list_most, pending_most}
-use Rattle.messages.specs.Answers.{bytes_of, entries, entry_bytes}
-use Rattle.proposer_rules.specs.State.{Pending, Proposer, key_of}
+use Rattle.messages.specs.Answers.{entries, entry_bytes}
+use Rattle.proposer_rules.specs.State.{Pending, Proposer}
 use Rattle.proposer_rules.specs.Rules.{moved}
-use Rattle.proposer_place.specs.Area.{counter_at, accept_count_at, propose_count_at, accept_list_at, propose_list_at, header_bytes, key_start, values_at, promised_value_at, place_bytes, first_value, second_value, values_of, long_at, area_bytes, place_image, area_image, read_area, read_pending, sized, is_image}
+use Rattle.proposer_place.specs.Area.{counter_at, accept_count_at, propose_count_at, accept_list_at, propose_list_at, header_bytes, place_bytes, long_at, area_bytes, place_image, area_image, read_area, read_pending, sized, is_image}
 use Rattle.proposer_place.specs.AreaLaws.{ShortList, Lawful, LawfulPlace, LawfulPlaces, LawfulState, read_written, length_area, written_read}
 use Rattle.proposer_place.specs.AreaRows.{entries_there}
 use Rattle.proposer_place.specs.AreaBytes.{bytes_area}
 use Rattle.proposer_place.specs.Rows.{entries-length, entries_bytes}
 use Rattle.proposer_place.specs.AreaRead.{lawful_read, image_lent}
-use Rattle.proposer_place.specs.PlaceLaws.{area_place, area_part, area_counter, lawful_counter, lawful_place_set, key_part, values_part, promised_part}
+use Rattle.proposer_place.specs.PlaceLaws.{area_place, area_part, area_counter, lawful_counter, lawful_place_set}
 use Rattle.proposer_place.specs.Front.{Used}
 use Rattle.proposer_area.specs.Turns.{sized_of}
 use Rattle.proposer_area.specs.Places.{place_at, place_in}
@@ -136,45 +135,6 @@ module _ (a : List ℕ) (n : ℕ) (held : Held a n) where
   pub counter_is : long_at a counter_at ≡ (read_area a n).counter
   unfolding read_area
   counter_is = refl
-
--- ---- what a pending request holds, as parts of the area
-
-drop-take : (a m : ℕ) (t : List ℕ) → drop a (take (a + m) t) ≡ take m (drop a t)
-drop-take zero m t = rw zero-add
-drop-take (suc a) m [] = simp (take-nil, drop-nil)
-drop-take (suc a) m (x ∷ t) = rw suc-add (drop-take a m t)
-
--- a part of a part
-part-part : (a : List ℕ) (at n b k : ℕ) → b + k ≤ n → part (part a at n) b k ≡ part a (at + b) k
-part-part a at n b k room =
-    let whole : n ≡ b + (n - b) = omega arith in
-    ap (take k) (ap (λ (m : ℕ). drop b (take m (drop at a))) whole ∙ drop-take b (n - b) (drop at a))
-    ∙ take-take k (n - b) (drop b (drop at a)) (omega arith)
-    ∙ ap (take k) (drop-drop b at a)
-
-module _ (a : List ℕ) (n i : ℕ) (held : Held a n) (pends : Pends a n i) where
-  abbrev pending : Pending
-  pending = read_pending (place_in a i)
-
-  within_place : (b k : ℕ) → b + k ≤ place_bytes → part a (place_at i + b) k ≡ part (place_image (Some pending)) b k
-  within_place b k room =
-      sym (part-part a (place_at i) place_bytes b k room) ∙ ap (λ (r : List ℕ). part r b k) (used_place a n held i pends).image
-
-  lawful : Lawful pending
-  lawful = lawful_pending a n held i pends
-
-  pub key_lent : (k : ℕ) → k ≡ length (key_of pending.req) → part a (place_at i + key_start) k ≡ key_of pending.req
-  key_lent k e = within_place key_start k (omega (arith, e, lawful.key.short)) ∙ ap (λ (j : ℕ). part (place_image (Some pending)) key_start j) e ∙ key_part pending lawful
-
-  pub values_lent : (k m : ℕ) → k ≡ length (bytes_of (first_value pending.req)) → m ≡ length (bytes_of (second_value pending.req)) → part a (place_at i + values_at) (k + m) ≡ values_of pending.req
-  values_lent k m ek em =
-      let both : k + m ≡ length (values_of pending.req) = omega (arith, ek, em, length-append (bytes_of (first_value pending.req)) (bytes_of (second_value pending.req))) in
-      within_place values_at (k + m) (omega (arith, ek, em, lawful.first.short, lawful.second.short))
-      ∙ ap (λ (j : ℕ). part (place_image (Some pending)) values_at j) both
-      ∙ values_part pending lawful
-
-  pub promised_lent : (k : ℕ) → k ≡ length (bytes_of pending.value) → part a (place_at i + promised_value_at) k ≡ bytes_of pending.value
-  promised_lent k e = within_place promised_value_at k (omega (arith, e, lawful.promised.short)) ∙ ap (λ (j : ℕ). part (place_image (Some pending)) promised_value_at j) e ∙ promised_part pending lawful
 
 -- the entries of a list of any length, from the front of its bytes
 pub entries_back : (l : List ℕ) → ShortList l → entries (entry_bytes l) 0 (length l) ≡ l

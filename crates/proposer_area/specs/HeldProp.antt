@@ -1,6 +1,6 @@
 -- An area is held in one way at most, so a struct may carry that it is.
 -- Assumes nothing.
-use Rattle.std.specs.Prelude.{◌≡◌, List, ℕ, Option, None, Some}
+use Rattle.std.specs.Prelude.{List, ℕ, Option, None, Some}
 use Rattle.std.specs.Coded.{Π_prop, Unit-prop, le_prop}
 use Rattle.std.proofs.Props.{props}
 use Rattle.leaf_fields.specs.Fields.{Bytes}
@@ -23,7 +23,7 @@ Short-prop most v = Prim.hlevel (Bytes-prop, props)
 ShortList-prop : (l : List ℕ) → IsProp (ShortList l)
 ShortList-prop l = Prim.hlevel (Entries-prop, props)
 
-Lawful-prop : (p : Pending) → IsProp (Lawful p)
+pub Lawful-prop : (p : Pending) → IsProp (Lawful p)
 Lawful-prop p = Prim.hlevel (Short-prop, ShortList-prop, props)
 
 LawfulPlace-prop : (q : Option Pending) → IsProp (LawfulPlace q)

@@ -1,15 +1,16 @@
 -- The part of an area that is place i, lent on: what it is, and what becomes of the area.
 -- Assumes nothing.
 use Rattle.std.specs.Prelude.{◌≡◌, List, ◌++◌, ℕ, ◌+◌, ◌-◌, ◌*◌, ◌≤◌, length, take, drop}
-use Rattle.std.proofs.Common.{sym, ap, subst, ◌∙◌, append_assoc, arith, drop-drop}
+use Rattle.std.proofs.Common.{sym, ap, subst, ◌∙◌, append_assoc, arith, drop-drop, length-take, length-drop}
+use Rattle.std.specs.Prelude.{None}
 use Rattle.std.specs.declared.ops.Range.{Range}
 use borrow.Rule.Slice.PartMut.{put_mid}
 use Rattle.std.proofs.lemmas.List.Edits.{sets, sets-eq}
 use Rattle.leaf_fields.specs.Laws.{length-part}
-use Rattle.messages.specs.Answers.{entries}
-use Rattle.proposer_rules.specs.State.{listed}
-use Rattle.proposer_place.specs.Rows.{entries-length}
-use Rattle.proposer_place.specs.Area.{place_bytes}
+use Rattle.proposer_place.specs.Area.{place_bytes, place_image}
+use Rattle.proposer_place.specs.AreaLaws.{length_place}
+use Rattle.proposer_place.specs.Front.{Used}
+use Rattle.proposer_place.specs.PlaceRows.{used_length}
 use Rattle.proposer_area.specs.Places.{place_at, place_in, place_range}
 use Rattle.proposer_area.specs.Turns.{lent_place_lem}
 
@@ -27,6 +28,16 @@ module _ (a : List ℕ) (i : ℕ) (r : Range ℕ) (at : r ≡ place_range i) whe
 
   pub lent_bytes : place_at i + place_bytes ≤ length a → length (lent a r) ≡ 976
   lent_bytes room = rw lent_is (length-part a (80 + 976 * i) 976 room)
+
+-- a place that holds what a place holds is within the area
+room_of : (a : List ℕ) (i : ℕ) → length (place_in a i) ≡ 976 → place_at i + place_bytes ≤ length a
+room_of a i e = omega (arith, e, length-take 976 (drop (80 + 976 * i) a), length-drop (80 + 976 * i) a)
+
+pub used_room : (a : List ℕ) (i : ℕ) → Used (place_in a i) → place_at i + place_bytes ≤ length a
+used_room a i u = room_of a i (used_length (place_in a i) u)
+
+pub free_room : (a : List ℕ) (i : ℕ) → place_in a i ≡ place_image None → place_at i + place_bytes ≤ length a
+free_room a i e = room_of a i (ap length e ∙ length_place None tt)
 
 -- what holds of place i holds of the part that is lent
 pub lent_has : (P : List ℕ → Type 0) (a : List ℕ) (i : ℕ) (r : Range ℕ) → r ≡ place_range i → P (place_in a i) → P (lent a r)
@@ -50,9 +61,3 @@ put_place a ys i r at room same =
 pub place_worked : (f : List ℕ → List ℕ) (a ys : List ℕ) (i : ℕ) (r : Range ℕ) → r ≡ place_range i → place_at i + place_bytes ≤ length a → length ys ≡ length (lent a r) → ys ≡ f (lent a r) → back a r ys ≡ sets a (place_at i) (f (place_in a i))
 place_worked f a ys i r at room same e =
     put_place a ys i r at room same ∙ ap (sets a (place_at i)) (e ∙ ap f (lent_is a i r at))
-
--- a list of place i, of which the front has the length
-pub listed_there : (a : List ℕ) (i : ℕ) (r : Range ℕ) (x at n m : ℕ) → r ≡ place_range i → n ≡ length (entries (place_in a i) at m) → listed x (entries (lent a r) at n) ≡ listed x (entries (place_in a i) at m)
-listed_there a i r x at n m e many =
-    ap (λ (b : List ℕ). listed x (entries b at n)) (lent_is a i r e)
-    ∙ ap (λ (k : ℕ). listed x (entries (place_in a i) at k)) (many ∙ entries-length (place_in a i) at m)

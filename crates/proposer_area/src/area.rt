@@ -5,7 +5,8 @@ ghost use Rattle.proposer_area.specs.HeldProp.{Held-prop};
 
 use super::{Header, take_header};
 
-// An area that is the image of a state that may be held.
+// An area that is the image of a state that may be held. A ghost field says so and no `impl Model`: with a model over the lent slice its
+// lender would learn nothing of the bytes (tried; what stays open is `returns` of whoever lends it).
 #[derive(Drop)]
 pub struct Area<'a> {
     pub bytes: &'a mut [u8],
@@ -24,6 +25,7 @@ impl<'a> Area<'a> {
     }
 
     // Its header, taken out.
+    #[tactic(auto, using(crate::specs::Turns::sized_of))]
     pub fn header(&self) -> Header
         ensures { (result ≡ header_in self.now.bytes.now) × (result.accept < 256) × (result.propose < 256) }
     {

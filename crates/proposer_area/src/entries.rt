@@ -3,12 +3,12 @@ ghost use Rattle.std.specs.Prelude.{◌≡◌, ◌+◌, ◌*◌, ◌≤◌, leng
 ghost use Rattle.leaf_fields.specs.Fields.{from_le, part};
 ghost use Rattle.messages.specs.Answers.{entries};
 ghost use Rattle.proposer_rules.specs.State.{listed};
-ghost use Rattle.proposer_area.specs.Entries.{numbers};
+ghost use Rattle.proposer_place.specs.Rows.{numbers};
 
 // The n entries at `at`, each as its bytes.
 pub fn list(s: &[u8], at: usize, n: usize) -> &[[u8; 2]]
     requires { at + 2 * n ≤ length s.now }
-    ensures { numbers result.now ≡ entries s.now at n }
+    ensures { (numbers result.now ≡ entries s.now at n) × (length result.now ≡ n) }
 {
     s[at..at + 2 * n].as_chunks().0
 }

@@ -16,8 +16,8 @@ pub use area::Area;
 pub use entries::{address, list, listed};
 use messages::PENDING_MOST;
 pub use places::{
-    again, drop_place, fill_place, has_answered, is_waited_for, note_no, note_promise, note_yes,
-    places_in, second_phase, take_place,
+    again, drop_place, fill_place, note_no, note_promise, note_yes, places_in, second_phase,
+    take_place,
 };
 use proposer_place::PLACE;
 pub use search::{find, held, lowest_free};

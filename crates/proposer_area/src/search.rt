@@ -1,18 +1,11 @@
 // Searches over the places of an area.
-ghost use Rattle.std.specs.Prelude.{◌≡◌, true, not, ◌&&◌, ◌-◌, ◌≤◌, ◌<◌, eqb, length};
+ghost use Rattle.std.specs.Prelude.{◌≡◌, not, ◌&&◌, ◌<◌, eqb, map};
 ghost use Rattle.leaf_fields.specs.Fields.{byte};
 ghost use Rattle.proposer_rules.specs.State.{listed};
 ghost use Rattle.proposer_rules.specs.Rules.{is_ballot};
-ghost use Rattle.proposer_place.specs.Area.{
-  used_at,
-  place_bytes,
-  read_pending,
-  read_places,
-  ballots_of,
-  sized,
-};
+ghost use Rattle.proposer_place.specs.Area.{used_at, read_pending, read_place, ballots_of};
 ghost use Rattle.std.specs.Prelude.{MatchOption};
-ghost use Rattle.proposer_area.specs.Places.{place_at, place_of, free_of};
+ghost use Rattle.proposer_area.specs.Places.{place_of, free_of};
 ghost use Rattle.proposer_area.specs.State.{state};
 
 use super::area::Area;
@@ -24,18 +17,18 @@ use proposer_place::PLACE;
 fn holds(b: &[u8; PLACE], ballot: Ballot) -> bool
     ensures { result ≡ (not (eqb (byte b.now used_at) 0) && is_ballot ballot (read_pending b.now)) }
 {
-    !proposer_place::is_free(b) && proposer_place::ballot(b).0 == ballot.0
+    !proposer_place::is_free(b) && proposer_place::ballot(b) == ballot
 }
 
-// Whether a place from place `first` on holds the request at a ballot.
-pub fn held(area: &[u8], first: usize, places: usize, ballot: Ballot) -> bool
-    requires { (sized area.now places ≡ true) × (first ≤ places) }
-    ensures { result ≡ listed ballot.0 (ballots_of (read_places area.now (place_at first) (places - first))) }
+// Whether one of these places holds the request at a ballot.
+pub fn held(places: &[[u8; PLACE]], ballot: Ballot) -> bool
+    ensures { result ≡ listed ballot.0 (ballots_of (map read_place places.now)) }
 {
-    places_in(area)[first..].iter().any(|b| holds(b, ballot))
+    places.iter().any(|b| holds(b, ballot))
 }
 
 // The place of the request at a ballot.
+#[tactic(auto, using(crate::specs::Turns::sized_of))]
 pub fn find(area: &Area<'_>, ballot: Ballot) -> Option<usize>
     ensures { MatchOption result (place_of ballot (state area.now).places ≡ area.now.places) (λ i. (i ≡ place_of ballot (state area.now).places) × (i < area.now.places)) }
 {
@@ -43,6 +36,7 @@ pub fn find(area: &Area<'_>, ballot: Ballot) -> Option<usize>
 }
 
 // The lowest free place.
+#[tactic(auto, using(crate::specs::Turns::sized_of))]
 pub fn lowest_free(area: &Area<'_>) -> Option<usize>
     ensures { MatchOption result (free_of (state area.now).places ≡ area.now.places) (λ i. (i ≡ free_of (state area.now).places) × (i < area.now.places)) }
 {

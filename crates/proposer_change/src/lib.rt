@@ -2,7 +2,7 @@
 // two lent slices, the request's or the promised one.
 #![tactic(auto)]
 
-ghost use Rattle.std.specs.Prelude.{◌≡◌, ◌≤◌, min, length};
+ghost use Rattle.std.specs.Prelude.{◌≡◌, take};
 ghost use Rattle.messages.specs.Message.{given};
 ghost use Rattle.messages.specs.Answers.{marked, bytes_of};
 ghost use Rattle.proposer_rules.specs.Rules.{majority_of, same_value};
@@ -29,27 +29,25 @@ pub struct Change<'a> {
     pub promised: &'a [u8],
 }
 
-// Whether the old value of a `Cas` is the promised one; none equals only none.
-fn same_value(o: Option<Lent>, old: &[u8], mark: Option<Lent>, promised: &[u8]) -> bool
-    ensures { result ≡ same_value (given o old.now) (given mark promised.now) }
-{
-    match (o, mark) {
-        (None, None) => true,
-        (Some(_), Some(_)) => leaf_fields::same(old, promised),
-        _ => false,
-    }
-}
-
 impl<'a> Change<'a> {
+    // Whether the promised value is this old one of a `Cas`; none equals only none.
+    fn expected(self, old: Option<Lent>) -> bool
+        ensures { result ≡ same_value (given old (take self.entry.split self.entry.request.now)) (given self.entry.mark self.entry.promised.now) }
+    {
+        let end = self.split.min(self.request.len());
+        match (old, self.mark) {
+            (None, None) => true,
+            (Some(_), Some(_)) => leaf_fields::same(&self.request[..end], self.promised),
+            _ => false,
+        }
+    }
+
     // Whether a `Cas` fails on the promised value.
     pub fn cas_failed(self) -> bool
         ensures { result ≡ (applied_in self.entry).failed }
     {
         match self.req {
-            Req::Cas { old, .. } => {
-                let end = self.split.min(self.request.len());
-                !same_value(old, &self.request[..end], self.mark, self.promised)
-            }
+            Req::Cas { old, .. } => !self.expected(old),
             _ => false,
         }
     }
@@ -59,17 +57,10 @@ impl<'a> Change<'a> {
         ensures { result ≡ marked (applied_in self.entry).value }
     {
         match self.req {
-            Req::Get => self.mark,
             Req::Del => None,
             Req::Set => Some(Lent),
-            Req::Cas { old, new } => {
-                let end = self.split.min(self.request.len());
-                if same_value(old, &self.request[..end], self.mark, self.promised) {
-                    new
-                } else {
-                    self.mark
-                }
-            }
+            Req::Cas { old, new } if self.expected(old) => new,
+            Req::Get | Req::Cas { .. } => self.mark,
         }
     }
 
@@ -78,17 +69,13 @@ impl<'a> Change<'a> {
         ensures { result.now ≡ bytes_of (applied_in self.entry).value }
     {
         match self.req {
-            Req::Get => messages::present(self.mark, self.promised),
             Req::Del => &self.request[..0],
             Req::Set => self.request,
-            Req::Cas { old, new } => {
+            Req::Cas { old, new } if self.expected(old) => {
                 let end = self.split.min(self.request.len());
-                if same_value(old, &self.request[..end], self.mark, self.promised) {
-                    messages::present(new, &self.request[end..])
-                } else {
-                    messages::present(self.mark, self.promised)
-                }
+                messages::present(new, &self.request[end..])
             }
+            Req::Get | Req::Cas { .. } => messages::present(self.mark, self.promised),
         }
     }
 }

@@ -31,14 +31,14 @@ fn late(b: &[u8; PLACE], t: u64, timeout: u64) -> bool
 }
 
 // The place of the late request with the lowest ballot.
-pub fn lowest_late(area: &Area<'_>, t: u64, timeout: u64) -> Option<usize>
-    requires { timeout ≡ (state area.now).timeout }
+pub fn lowest_late(area: &Area<'_>, t: u64) -> Option<usize>
     ensures { MatchOption result (late_of (state area.now) t (state area.now).places ≡ area.now.places) (λ i. (i ≡ late_of (state area.now) t (state area.now).places) × (i < area.now.places)) }
 {
+    let timeout = area.header().timeout;
     places_in(&area.bytes)
         .iter()
         .enumerate()
         .filter(|(_, b)| late(b, t, timeout))
-        .min_by_key(|(_, b)| proposer_place::ballot(b).0)
+        .min_by_key(|(_, b)| proposer_place::ballot(b))
         .map(|(i, _)| i)
 }

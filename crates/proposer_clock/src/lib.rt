@@ -30,9 +30,8 @@ fn expire(area: &mut Area<'_>, t: u64, answer: &mut [u8]) -> usize
     requires { length answer.old ≡ answer_bytes area.old.places }
     ensures { (result ≡ length (late_ones (state area.old) t (state area.old).places)) × Becomes area.old area.new (moved (state area.old) (state area.old).counter (in_time (state area.old) t (state area.old).places)) × (answer.new ≡ sets answer.old rows_at (rows_bytes (rows_of (late_ones (state area.old) t (state area.old).places)))) }
 {
-    let h = area.header();
     for k in 0..area.places {
-        let Some(i) = lowest_late(area, t, h.timeout) else {
+        let Some(i) = lowest_late(area, t) else {
             return k;
         };
         let f = proposer_area::take_place(area, i);
@@ -43,6 +42,7 @@ fn expire(area: &mut Area<'_>, t: u64, answer: &mut [u8]) -> usize
 }
 
 // A tick.
+#[tactic(auto, unfolding(proposer_rules::specs::Rules::tick))]
 pub fn tick(area: &mut Area<'_>, t: u64, answer: &mut [u8]) -> Answer
     requires { length answer.old ≡ answer_bytes area.old.places }
     ensures { WorkedOn area.old answer.old (Rules.tick (state area.old) t) result area.new answer.new }

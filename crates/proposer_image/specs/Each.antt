@@ -1,18 +1,17 @@
 -- The tests of the entries of a list and of the places of an area, as tests of every one of them.
 -- Assumes nothing.
-use Rattle.std.specs.Prelude.{◌≡◌, refl, Bool, true, false, not, cond, ◌&&◌, ◌||◌, List, [], ◌∷◌, eqb, take, drop, length}
+use Rattle.std.specs.Prelude.{◌≡◌, refl, Bool, true, false, not, cond, ◌&&◌, ◌||◌, List, [], ◌∷◌, eqb, map, take, drop, length}
 use Rattle.std.proofs.Common.{ap, sym, ◌∙◌, drop-drop}
-use Prim.Native.Nat.{ℕ, zero, suc, ◌+◌, ◌-◌, ◌*◌}
-use native.Mathlib.Omega.{arith}
+use Prim.Native.Nat.{ℕ, zero, suc, ◌+◌, ◌-◌}
 use Rattle.std.specs.Prelude.{Option, None, Some}
 use Rattle.std.proofs.lemmas.List.{take_rest}
 use Rattle.std.specs.List.{list_all, enumerate_from}
 use Rattle.std.specs.Simd.{first_chunks}
 use Rattle.leaf_fields.specs.Fields.{from_le, part, byte}
-use Rattle.proposer_area.specs.Entries.{numbers}
+use Rattle.proposer_place.specs.Rows.{numbers}
 use Rattle.proposer_rules.specs.State.{Pending, listed}
-use Rattle.proposer_place.specs.Area.{header_bytes, used_at, place_bytes, read_pending, read_place, read_places, ballots_of, distinct}
-use Rattle.proposer_area.specs.Places.{place_at, places_in}
+use Rattle.proposer_place.specs.Area.{header_bytes, used_at, place_bytes, read_pending, read_place, ballots_of, distinct}
+use Rattle.proposer_area.specs.Places.{places_in}
 use Rattle.proposer_image.specs.Good.{is_wanted, each_listed, place_good, places_good}
 
 -- ---- entries
@@ -54,21 +53,18 @@ turn_of b l = go (eqb (byte b used_at) 0)
     go true = refl
     go false = refl
 
-module _ (a : List ℕ) (n : ℕ) where
-  -- place i is free, or its ballot stands nowhere behind it
-  abbrev pub apart : ℕ → List ℕ → Bool
-  apart i b = eqb (byte b used_at) 0 || not (listed (read_pending b).ballot.0 (ballots_of (read_places a (place_at (i + 1)) (n - (i + 1)))))
+-- place i of all is free, or its ballot stands nowhere behind it
+abbrev pub apart : List (List ℕ) → ℕ → List ℕ → Bool
+apart all i b = eqb (byte b used_at) 0 || not (listed (read_pending b).ballot.0 (ballots_of (map read_place (take (length all - (i + 1)) (drop (i + 1) all)))))
 
-  apart_from : (k m : ℕ) → k + m ≡ n → list_all (λ p. apart p.0 p.1) (enumerate_from k (first_chunks place_bytes m (drop (place_at k) a))) ≡ distinct (ballots_of (read_places a (place_at k) m))
-  unfolding distinct ballots_of read_places
-  apart_from k zero e = refl
-  apart_from k (suc m) e =
-      let left : n - (k + 1) ≡ m = omega arith in
-      let behind : 80 + 976 * k + 976 ≡ 80 + 976 * (k + 1) = omega arith in
-      let b = part a (80 + 976 * k) 976 in
-      let l = read_places a (80 + 976 * (k + 1)) m in
-      rw (drop-drop 976 (80 + 976 * k) a, behind, left)
-      (ap (λ r. (eqb (byte b used_at) 0 || not (listed (read_pending b).ballot.0 (ballots_of l))) && r) (apart_from (k + 1) m (omega arith)) ∙ sym (turn_of b l))
+apart_from : (all : List (List ℕ)) (k : ℕ) (l : List (List ℕ)) → drop k all ≡ l → list_all (λ p. apart all p.0 p.1) (enumerate_from k l) ≡ distinct (ballots_of (map read_place l))
+unfolding distinct ballots_of
+apart_from all k [] e = refl
+apart_from all k (b ∷ l) e =
+    let behind : drop (k + 1) all ≡ l = sym (drop-drop 1 k all) ∙ ap (drop 1) e in
+    let rest : take (length all - (k + 1)) (drop (k + 1) all) ≡ l = take_rest all (k + 1) ∙ behind in
+    rw rest
+    (ap (λ r. (eqb (byte b used_at) 0 || not (listed (read_pending b).ballot.0 (ballots_of (map read_place l)))) && r) (apart_from all (k + 1) l behind) ∙ sym (turn_of b (map read_place l)))
 
-  pub apart_all : list_all (λ p. apart p.0 p.1) (enumerate_from 0 (places_in a n)) ≡ distinct (ballots_of (read_places a header_bytes n))
-  apart_all = apart_from 0 n (omega arith)
+pub apart_all : (all : List (List ℕ)) → list_all (λ p. apart all p.0 p.1) (enumerate_from 0 all) ≡ distinct (ballots_of (map read_place all))
+apart_all all = apart_from all 0 all refl

@@ -1,17 +1,18 @@
 -- The tests of a pending request by the struct that was taken out of its place.
 -- Assumes nothing.
-use Rattle.std.specs.Prelude.{◌≡◌, refl, true, false, not, ◌&&◌, List, ℕ, ◌≤◌, eqb, leb, length}
+use Rattle.std.specs.Prelude.{◌≡◌, refl, true, false, not, ◌&&◌, ◌||◌, is_some, List, ℕ, ◌≤◌, eqb, leb, length}
 use Rattle.std.proofs.Common.{sym, ◌∙◌, leb-true}
 use Rattle.std.proofs.Math.Bool as Booleans
 use Rattle.std.specs.Prelude.{Option, None, Some}
 use Rattle.leaf_fields.specs.Laws.{and_true}
 use Rattle.messages.specs.Message.{Value, Request}
 use Rattle.messages.specs.Limits.{key_most, value_most, list_most, option_fits, request_fits, none_zero, list_fits}
-use Rattle.messages.specs.Answers.{bytes_of, entries}
+use Rattle.messages.specs.declared.Ballot.{Ballot}
+use Rattle.messages.specs.Answers.{marked, bytes_of, entries}
 use Rattle.proposer_rules.specs.State.{Pending, key_of}
 use Rattle.proposer_place.specs.declared.front.Front.{Front}
 use Rattle.proposer_place.specs.Front.{front_of}
-use Rattle.proposer_place.specs.Area.{waited_at, yes_at, no_at, first_value, second_value, read_pending, sizes_fit, answers_fit, distinct}
+use Rattle.proposer_place.specs.Area.{waited_at, yes_at, no_at, first_value, second_value, read_pending, promise_fits, sizes_fit, answers_fit, distinct}
 use Rattle.proposer_place.specs.Rows.{entries-length}
 use Rattle.proposer_image.specs.Good.{TakenFrom, each_listed}
 use Rattle.proposer_image.specs.Lists.{each_listed_lem, all_listed_append, distinct_append}
@@ -55,6 +56,16 @@ sizes_taken b f taken = sizes_by_front (read_pending b) f taken.front ∙ rw (wa
 pub answers_taken : (b : List ℕ) (f : Front) → TakenFrom b f → answers_fit (read_pending b) ≡ ((each_listed true (entries b yes_at f.acks_from) (entries b waited_at f.waiting_for) && each_listed true (entries b no_at f.nacks_from) (entries b waited_at f.waiting_for)) && (distinct (entries b yes_at f.acks_from) && distinct (entries b no_at f.nacks_from) && each_listed false (entries b yes_at f.acks_from) (entries b no_at f.nacks_from)))
 unfolding answers_fit
 answers_taken b f taken = rw (waited_taken b f taken, yes_taken b f taken, no_taken b f taken, all_listed_append, each_listed_lem, each_listed_lem, distinct_append)
+
+-- ---- the promise
+
+by_mark : (p : Ballot) (v : Option Value) → promise_fits p v ≡ (not (is_some (marked v)) || not (eqb p.0 0))
+by_mark p None = refl
+by_mark p (Some v) = refl
+
+pub promise_taken : (b : List ℕ) (f : Front) → TakenFrom b f → promise_fits (read_pending b).promised (read_pending b).value ≡ (not (is_some f.mark) || not (eqb f.promised.0 0))
+unfolding front_of
+promise_taken b f taken = by_mark (read_pending b).promised (read_pending b).value ∙ rw taken.front refl
 
 -- what sizes that fit say
 pub record ShortFront (f : Front) : Type 0 where

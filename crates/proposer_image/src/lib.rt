@@ -3,13 +3,14 @@
 
 mod entries;
 
-ghost use Rattle.std.specs.Prelude.{◌≡◌, true, ℕ, ◌≤◌, ◌<◌, length};
+ghost use Rattle.std.specs.Prelude.{◌≡◌, true, ℕ, ◌≤◌, ◌<◌, length, map};
 ghost use Rattle.std.specs.Prelude.{Some};
+ghost use Rattle.std.specs.List.{list_all};
 ghost use Rattle.leaf_fields.specs.Fields.{byte, same};
 ghost use Rattle.proposer_place.specs.Area.{
   header_bytes,
   read_pending,
-  read_places,
+  read_place,
   place_image,
   sizes_fit,
   answers_fit,
@@ -19,14 +20,15 @@ ghost use Rattle.proposer_place.specs.Area.{
   is_image,
 };
 ghost use Rattle.proposer_place.specs.Area as Area;
-ghost use Rattle.proposer_image.specs.Good.{header_good, used_good, place_good, places_good, TakenFrom};
+ghost use Rattle.proposer_image.specs.Good.{header_good, used_good, place_good, TakenFrom};
 
 use entries::{distinct, each_listed, none_zero};
-use messages::{KEY_MOST, LIST_MOST, Lent, VALUE_MOST};
+use messages::{KEY_MOST, LIST_MOST, VALUE_MOST};
 use proposer_area::{ACCEPT_LIST, HEADER, PROPOSE_LIST, held, list, places_in, take_header};
-use proposer_place::{Front, KEY, NO, PLACE, PROMISED, VALUES, WAITED, YES};
+use proposer_place::{Front, KEY, NO, PLACE, PROMISED, Rows, VALUES, WAITED, YES};
 
 // The header: two lists within the limits, and zeros behind them.
+#[tactic(auto, unfolding(crate::specs::Good::header_good))]
 fn header_good(area: &[u8]) -> bool
     requires { header_bytes ≤ length area.now }
     ensures { result ≡ header_good area.now }
@@ -88,17 +90,16 @@ impl<'a> Read<'a> {
         let b = self.bytes;
         let f = self.front;
         let first = VALUES + f.first_len;
-        proposer_place::write(
-            &mut written,
-            f,
-            &b[WAITED..WAITED + 2 * f.waiting_for],
-            &b[YES..YES + 2 * f.acks_from],
-            &b[NO..NO + 2 * f.nacks_from],
-            &b[KEY..KEY + f.key_len],
-            &b[VALUES..first],
-            &b[first..first + f.second_len],
-            &b[PROMISED..PROMISED + f.value_len],
-        );
+        let rows = Rows {
+            waited: &b[WAITED..WAITED + 2 * f.waiting_for],
+            yes: &b[YES..YES + 2 * f.acks_from],
+            no: &b[NO..NO + 2 * f.nacks_from],
+            key: &b[KEY..KEY + f.key_len],
+            first: &b[VALUES..first],
+            second: &b[first..first + f.second_len],
+            promised: &b[PROMISED..PROMISED + f.value_len],
+        };
+        proposer_place::write(&mut written, f, rows);
         leaf_fields::same(b, &written)
     }
 
@@ -123,14 +124,12 @@ impl<'a> Read<'a> {
     fn promise_fits(&self) -> bool
         ensures { result ≡ promise_fits (read_pending self.now.bytes.now).promised (read_pending self.now.bytes.now).value }
     {
-        match self.front.mark {
-            None => true,
-            Some(_) => self.front.promised.0 != 0,
-        }
+        self.front.mark.is_none() || self.front.promised.0 != 0
     }
 }
 
 // A used place, under a counter.
+#[tactic(auto, unfolding(crate::specs::Good::used_good, proposer_place::specs::Front::front_of))]
 fn used_good(b: &[u8; PLACE], counter: u64) -> bool
     ensures { result ≡ used_good counter b.now }
 {
@@ -143,6 +142,7 @@ fn used_good(b: &[u8; PLACE], counter: u64) -> bool
 }
 
 // Any place; a free one is all zeros.
+#[tactic(auto, unfolding(crate::specs::Good::place_good))]
 fn place_good(b: &[u8; PLACE], counter: u64) -> bool
     ensures { result ≡ place_good counter b.now }
 {
@@ -154,29 +154,26 @@ fn place_good(b: &[u8; PLACE], counter: u64) -> bool
 }
 
 // All places.
-fn places_good(area: &[u8], places: usize, counter: u64) -> bool
-    requires { sized area.now places ≡ true }
-    ensures { result ≡ places_good counter area.now header_bytes places }
+fn places_good(places: &[[u8; PLACE]], counter: u64) -> bool
+    ensures { result ≡ list_all (place_good counter) places.now }
 {
-    places_in(area).iter().all(|b| place_good(b, counter))
+    places.iter().all(|b| place_good(b, counter))
 }
 
 // No two pending requests have one ballot.
-fn ballots_distinct(area: &[u8], places: usize) -> bool
-    requires { sized area.now places ≡ true }
-    ensures { result ≡ Area.distinct (ballots_of (read_places area.now header_bytes places)) }
+fn ballots_distinct(places: &[[u8; PLACE]]) -> bool
+    ensures { result ≡ Area.distinct (ballots_of (map read_place places.now)) }
 {
-    places_in(area).iter().enumerate().all(|(i, b)| {
-        proposer_place::is_free(b) || !held(area, i + 1, places, proposer_place::ballot(b))
+    places.iter().enumerate().all(|(i, b)| {
+        proposer_place::is_free(b) || !held(&places[i + 1..], proposer_place::ballot(b))
     })
 }
 
-// Whether the area is the image of a state that may be lent.
-pub fn is_image(area: &[u8], places: usize) -> bool
-    requires { sized area.now places ≡ true }
-    ensures { result ≡ is_image area.now places }
+// Whether the area is the image of a state that may be lent, with as many places as it has the size for.
+pub fn is_image(area: &[u8]) -> bool
+    requires { header_bytes ≤ length area.now }
+    ensures { (n : ℕ) → sized area.now n ≡ true → result ≡ is_image area.now n }
 {
-    header_good(area)
-        && places_good(area, places, take_header(area).counter)
-        && ballots_distinct(area, places)
+    let places = places_in(area);
+    header_good(area) && places_good(places, take_header(area).counter) && ballots_distinct(places)
 }

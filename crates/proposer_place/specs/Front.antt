@@ -1,16 +1,18 @@
 -- The front of a place as a struct by value: what it says of a pending request, and its bytes. Whole places as rows.
 -- Assumes nothing.
-use Rattle.std.specs.Prelude.{◌≡◌, true, List, [], ◌∷◌, ◌++◌, ℕ, ◌+◌, ◌<◌, length, Option, None}
+use Rattle.std.specs.Prelude.{◌≡◌, true, List, [], ◌∷◌, ◌++◌, ℕ, ◌+◌, ◌≤◌, ◌<◌, length, Option, None}
 use Rattle.std.specs.Prelude.{Some}
 use Rattle.leaf_fields.specs.Fields.{to_le, padded}
 use Rattle.messages.specs.declared.Lent.{Lent}
 use Rattle.messages.specs.declared.Req.{Req}
 use Rattle.messages.specs.declared.Ballot.{Ballot}
 use Rattle.messages.specs.Ballots.{ballot0}
+use Rattle.messages.specs.Message.{mark}
 use Rattle.messages.specs.Limits.{key_most, value_most}
 use Rattle.messages.specs.Answers.{marked, bytes_of, request_rpc}
 use Rattle.proposer_place.specs.declared.front.Phase as Code
 use Rattle.proposer_place.specs.declared.front.Front.{Front}
+use Rattle.proposer_place.specs.declared.rows.Rows.{Rows}
 use Rattle.proposer_rules.specs.State.{Phase, Propose, Accept, Pending, key_of}
 use Rattle.proposer_place.specs.Area.{list_bytes, values_bytes, first_value, second_value, flag_byte, place_image, read_pending}
 use Rattle.proposer_place.specs.AreaLaws.{Lawful}
@@ -119,28 +121,24 @@ kind_code Req.Del = 2
 kind_code Req.Set = 3
 kind_code (Req.Cas old new) = 4
 
-abbrev pub mark_code : Option Lent → ℕ
-mark_code None = 0
-mark_code (Some mark) = 1
-
 -- the marks of a request's two values
 abbrev pub first_code : Req → ℕ
 first_code Req.Get = 0
 first_code Req.Del = 0
 first_code Req.Set = 1
-first_code (Req.Cas old new) = mark_code old
+first_code (Req.Cas old new) = mark old
 
 abbrev pub second_code : Req → ℕ
 second_code Req.Get = 0
 second_code Req.Del = 0
 second_code Req.Set = 0
-second_code (Req.Cas old new) = mark_code new
+second_code (Req.Cas old new) = mark new
 
 -- bytes 0 to 7
 unfoldable pub mark_bytes : Front → List ℕ
 mark_bytes f =
     1 ∷ phase_code f.phase ∷ flag_byte f.retried ∷ kind_code f.req ∷ f.key_len
-    ∷ first_code f.req ∷ second_code f.req ∷ mark_code f.mark ∷ []
+    ∷ first_code f.req ∷ second_code f.req ∷ mark f.mark ∷ []
 
 -- bytes 8 to 47
 unfoldable pub number_bytes : Front → List ℕ
@@ -163,7 +161,21 @@ place_rows front waited yeses noes key values promised =
     front ++ (padded list_bytes waited ++ (padded list_bytes yeses ++ (padded list_bytes noes
     ++ (0 ∷ 0 ∷ (padded key_most key ++ (padded values_bytes values ++ padded value_most promised))))))
 
+-- a front and the rows behind it, each with zeros behind what it holds
+abbrev pub rows_image : Front → Rows → List ℕ
+rows_image f r =
+    place_rows (front_bytes f) r.waited.now r.yes.now r.no.now r.key.now (r.first.now ++ r.second.now) r.promised.now
+
 -- ---- for the functions on a place
+
+-- each row has room in a place
+pub record Fit (r : Rows) : Type 0 where
+  pub waited : length r.waited.now ≤ list_bytes
+  pub yes : length r.yes.now ≤ list_bytes
+  pub no : length r.no.now ≤ list_bytes
+  pub key : length r.key.now ≤ key_most
+  pub values : length r.first.now + length r.second.now ≤ values_bytes
+  pub promised : length r.promised.now ≤ value_most
 
 -- single bytes of the struct that must fit a byte
 pub record Small (f : Front) : Type 0 where

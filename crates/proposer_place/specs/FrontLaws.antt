@@ -7,14 +7,13 @@ use Rattle.std.specs.Prelude.{Option, None, Some}
 use Rattle.std.proofs.Math.Dec.{eqb}
 use Rattle.std.proofs.Math.ListN.{length}
 use Rattle.leaf_fields.specs.Fields.{to_le, part, byte}
-use Rattle.messages.specs.declared.Lent.{Lent}
 use Rattle.messages.specs.declared.Req.{Req}
-use Rattle.messages.specs.Message.{Key, Value, Request, lent}
+use Rattle.messages.specs.Message.{Key, Value, Request, lent, mark}
 use Rattle.messages.specs.Answers.{marked, bytes_of, request_rpc}
 use Rattle.proposer_place.specs.declared.front.Front.{Front}
 use Rattle.proposer_rules.specs.State.{Phase, Propose, Accept, Pending, key_of}
 use Rattle.proposer_place.specs.Area.{waited_at, place_bytes, key_start, values_at, promised_value_at, first_length_at, second_length_at, promised_length_at, client_at, id_at, ballot_at, promised_at, arrival_at, phase_at, retried_at, kind_at, key_length_at, first_mark_at, second_mark_at, promised_mark_at, waited_count_at, yes_count_at, no_count_at, yes_at, no_at, first_value, second_value, kind_byte, phase_byte, mark_byte, place_front, phase_from, value_from, short_at, long_at, key_in, first_in, second_in, promised_in, read_pending}
-use Rattle.proposer_place.specs.Front.{phase_of, front_of, phase_code, kind_code, mark_code, first_code, second_code, mark_bytes, number_bytes, count_bytes, front_bytes}
+use Rattle.proposer_place.specs.Front.{phase_of, front_of, phase_code, kind_code, first_code, second_code, mark_bytes, number_bytes, count_bytes, front_bytes}
 use Rattle.proposer_place.specs.Rows.{entries-length}
 
 -- ---- its bytes
@@ -23,7 +22,7 @@ phase_same : (h : Phase) → phase_code (phase_of h) ≡ phase_byte h
 phase_same Propose = refl
 phase_same Accept = refl
 
-mark_same : (v : Option Value) → mark_code (marked v) ≡ mark_byte v
+mark_same : (v : Option Value) → mark (marked v) ≡ mark_byte v
 mark_same None = refl
 mark_same (Some v) = refl
 
@@ -49,14 +48,6 @@ pub front_bytes_lem : (p : Pending) → front_bytes (front_of p) ≡ place_front
 unfolding front_bytes mark_bytes number_bytes count_bytes front_of place_front to_le
 front_bytes_lem p =
     rw (phase_same p.phase, kind_same p.req, first_same p.req, second_same p.req, mark_same p.value)
-
-pub length_marks : (f : Front) → length (mark_bytes f) ≡ 8
-unfolding mark_bytes
-length_marks f = refl
-
-pub length_numbers : (f : Front) → length (number_bytes f) ≡ 40
-unfolding number_bytes to_le
-length_numbers f = refl
 
 pub length-front_bytes : (f : Front) → length (front_bytes f) ≡ waited_at
 unfolding front_bytes mark_bytes number_bytes count_bytes to_le

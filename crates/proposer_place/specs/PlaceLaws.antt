@@ -18,6 +18,7 @@ use Rattle.messages.specs.Answers.{bytes_of}
 use Rattle.proposer_rules.specs.State.{Pending, Proposer, key_of, new_pending, with_no, with_yes, second_phase, asked_again}
 use Rattle.proposer_place.specs.Area.{counter_at, header_bytes, key_start, values_at, promised_value_at, place_bytes, values_bytes, values_of, first_value, second_value, list_row, place_image, places_image, header_front, area_image}
 use Rattle.proposer_place.specs.AreaRows.{Entries, length_list, content_there}
+use Rattle.proposer_place.specs.Front.{front_of, Small}
 use Rattle.proposer_place.specs.AreaLaws.{Short, ShortList, Lawful, LawfulPlace, LawfulPlaces, LawfulState, length_place, key_there, values_there, promised_there}
 
 -- the first of two rows, stored anew
@@ -230,6 +231,18 @@ pub lawful_again : (p : Pending) → Lawful p → (b : Ballot) (l : List ℕ) �
 lawful_again p ok b l high short =
     lawful_new p.client p.id p.req b l p.received_at true ok.client_fits ok.id_fits
     (record { key = ok.key; first = ok.first; second = ok.second }) high short ok.arrival_fits
+
+-- ---- the front of a lawful request
+
+pub small_front : (p : Pending) → Lawful p → Small (front_of p)
+unfolding front_of
+small_front p ok =
+    record {
+      key = omega (arith, ok.key.short);
+      waited = omega (arith, ok.waited.short);
+      yeses = omega (arith, ok.yeses.short);
+      noes = omega (arith, ok.noes.short);
+    }
 
 -- ---- what a place holds, by its lengths
 

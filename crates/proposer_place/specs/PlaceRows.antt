@@ -2,7 +2,7 @@
 -- Assumes nothing.
 use Rattle.std.specs.Prelude.{◌≡◌, refl}
 use Rattle.std.proofs.Math.Path.{sym, ap}
-use Rattle.std.proofs.Common.{◌∙◌, arith, length-append}
+use Rattle.std.proofs.Common.{◌∙◌, arith, subst, length-append}
 use mathlib.Core.List.{List, [], ◌∷◌, ◌++◌, append_assoc, append-nil}
 use Rattle.std.specs.Prelude.{Option, Some}
 use Prim.Native.Nat.{ℕ, ◌+◌, ◌-◌, ◌*◌, ◌≤◌, ◌<◌}
@@ -11,8 +11,8 @@ use Rattle.std.proofs.Math.ListN.{length, replicate}
 use Rattle.std.proofs.lemmas.List.Edits.{sets}
 use Rattle.std.proofs.Math.Seq.{length-sets}
 use Rattle.leaf_fields.specs.Stores.{sets_left, sets_right, sets_whole, sets_zeros, padded_more, put_middle}
-use Rattle.leaf_fields.specs.Fields.{to_le, Bytes, padded}
-use Rattle.leaf_fields.specs.Laws.{length-to_le}
+use Rattle.leaf_fields.specs.Fields.{to_le, part, Bytes, padded}
+use Rattle.leaf_fields.specs.Laws.{length-to_le, bytes_part, part_same, part_after}
 use Rattle.messages.specs.declared.Address.{Address}
 use Rattle.messages.specs.declared.Ballot.{Ballot}
 use Rattle.messages.specs.declared.Lent.{Lent}
@@ -356,6 +356,12 @@ room_yes b f u e few = omega (arith, used_length b u, few_yeses b f e few)
 pub room_front : (b n vs : List ℕ) (at : ℕ) → Used b → n ≡ sets b at vs → waited_at ≤ length n
 room_front b n vs at u e = omega (arith, used_stored b n vs at u e)
 
+-- what is stored as the waited-for list is bytes where the place is
+pub bytes_waited : (b l g n₁ n₂ : List ℕ) → waited_at + length l ≤ length b → length g ≡ waited_at → n₁ ≡ sets b waited_at l → n₂ ≡ sets n₁ 0 g → Bytes n₂ → Bytes l
+bytes_waited b l g n₁ n₂ room lg e₁ e₂ h =
+    let at = λ (r : List ℕ). part r waited_at (length l) in
+    subst (λ (r : List ℕ). Bytes r) (ap at e₂ ∙ part_after n₁ 0 g waited_at (length l) (omega arith) ∙ ap at e₁ ∙ part_same b waited_at l room) (bytes_part n₂ waited_at (length l) h)
+
 -- ---- a whole place, written on zeros
 
 sized_padded : (f w y n k v p : List ℕ) → length f ≡ waited_at → length w ≤ list_bytes → length y ≤ list_bytes → length n ≤ list_bytes → length k ≤ key_most → length v ≤ values_bytes → length p ≤ value_most → Sized f (padded list_bytes w) (padded list_bytes y) (padded list_bytes n) (padded key_most k) (padded values_bytes v) (padded value_most p)
@@ -368,10 +374,6 @@ sized_padded f w y n k v p lf lw ly ln lk lv lp = record {
   values = length-padded values_bytes v lv;
   promised = length-padded value_most p lp;
 }
-
-pub length-place_rows : (f w y n k v p : List ℕ) → length f ≡ waited_at → length w ≤ list_bytes → length y ≤ list_bytes → length n ≤ list_bytes → length k ≤ key_most → length v ≤ values_bytes → length p ≤ value_most → length (place_rows f w y n k v p) ≡ place_bytes
-length-place_rows f w y n k v p lf lw ly ln lk lv lp =
-    ap length (rows_padded f w y n k v p) ∙ length_rows f _ _ _ _ _ _ (sized_padded f w y n k v p lf lw ly ln lk lv lp)
 
 module _ (f w y n k v p : List ℕ) (lf : length f ≡ waited_at) (lw : length w ≤ list_bytes) (ly : length y ≤ list_bytes) (ln : length n ≤ list_bytes) (lk : length k ≤ key_most) (lv : length v ≤ values_bytes) (lp : length p ≤ value_most) where
   abbrev all_sized : Sized f (padded list_bytes w) (padded list_bytes y) (padded list_bytes n) (padded key_most k) (padded values_bytes v) (padded value_most p)

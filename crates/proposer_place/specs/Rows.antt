@@ -1,8 +1,9 @@
 -- The entries of a list, in their row of bytes.
 -- Assumes nothing.
-use Rattle.std.specs.Prelude.{◌≡◌, refl, List, [], ◌∷◌, ◌++◌, ℕ, zero, suc, ◌+◌, ◌*◌, ◌≤◌, ◌<◌, length, take}
-use Rattle.std.proofs.Common.{sym, ap, ◌∙◌, append_assoc, append-nil, arith}
+use Rattle.std.specs.Prelude.{◌≡◌, refl, List, [], ◌∷◌, ◌++◌, ℕ, zero, suc, ◌+◌, ◌*◌, ◌≤◌, ◌<◌, length, map, get_or, take, drop}
+use Rattle.std.proofs.Common.{sym, ap, ◌∙◌, append_assoc, append-nil, arith, drop-drop, drop_at, take_at}
 use Rattle.std.proofs.lemmas.List.Edits.{sets}
+use Rattle.std.specs.List.{flat_map}
 use Rattle.leaf_fields.specs.Stores.{padded_more}
 use Rattle.leaf_fields.specs.Fields.{from_le, to_le, part, Bytes, padded}
 use Rattle.leaf_fields.specs.Laws.{length-to_le, to_le-from_le, length-part, bytes_part}
@@ -52,3 +53,29 @@ entries_whole b n e h = entries_bytes b 0 n (omega arith) h ∙ ap (λ (k : ℕ)
     whole : (l : List ℕ) → take (length l) l ≡ l
     whole [] = refl
     whole (x ∷ l) = ap (λ (r : List ℕ). x ∷ r) (whole l)
+
+-- ---- entries as arrays of two bytes
+
+abbrev pub numbers : List (List ℕ) → List ℕ
+numbers l = map (λ e. from_le (part e 0 2)) l
+
+-- entries behind a row
+entries_behind : (x l : List ℕ) (at n : ℕ) → entries (x ++ l) (length x + at) n ≡ entries l at n
+unfolding entries
+entries_behind x l at zero = refl
+entries_behind x l at (suc n) =
+    let here : drop (length x + at) (x ++ l) ≡ drop at l = sym (drop-drop at (length x) (x ++ l)) ∙ ap (drop at) (drop_at x l (length x) refl) in
+    let next : length x + at + 2 ≡ length x + (at + 2) = omega arith in
+    rw (here, next, entries_behind x l (at + 2) n)
+
+-- arrays one behind the other, read as a list
+pub entries_flat : (l : List (List ℕ)) → ((i : ℕ) → i < length l → length (get_or l i []) ≡ 2) → entries (flat_map (λ e. e) l) 0 (length l) ≡ numbers l
+unfolding entries
+entries_flat [] h = refl
+entries_flat (e ∷ l) h =
+    let r = flat_map (λ (x : List ℕ). x) l in
+    let size : length e ≡ 2 = h 0 (omega arith) in
+    let first : take 2 (e ++ r) ≡ take 2 e = take_at e r 2 size ∙ sym (take_at e [] 2 size) ∙ ap (take 2) (append-nil e) in
+    let at : 2 ≡ length e + 0 = omega arith in
+    let behind : entries (e ++ r) 2 (length l) ≡ numbers l = ap (λ (k : ℕ). entries (e ++ r) k (length l)) at ∙ entries_behind e r 0 (length l) ∙ entries_flat l (λ i lt. h (suc i) (omega (arith, lt))) in
+    rw (first, behind)

@@ -1,9 +1,9 @@
 // The front of a place, bytes 0 to 51, as a struct by value.
-ghost use Rattle.messages.specs.Message.{lent};
-ghost use Rattle.std.specs.Prelude.{◌≡◌, Bool, cond, ◌||◌, ◌≤◌, ◌<◌, ◌-◌, ◌+◌, min, eqb, length, None, Some};
+ghost use Rattle.messages.specs.Message.{of_mark, given};
+ghost use Rattle.std.specs.Prelude.{◌≡◌, Bool, cond, ◌||◌, ◌≤◌, ◌<◌, ◌-◌, ◌+◌, min, eqb, length};
 ghost use Rattle.std.proofs.lemmas.List.Edits.{sets};
 ghost use Rattle.leaf_fields.specs.Fields.{byte};
-ghost use Rattle.messages.specs.Answers.{marked};
+ghost use Rattle.messages.specs.Answers.{bytes_of};
 ghost use Rattle.proposer_place.specs.Area.{
   place_bytes,
   used_at,
@@ -17,7 +17,6 @@ ghost use Rattle.proposer_place.specs.Front.{
   front_of,
   phase_code,
   kind_code,
-  mark_code,
   first_code,
   second_code,
   mark_bytes,
@@ -30,6 +29,7 @@ ghost use Rattle.proposer_place.specs.Front.{
   Small,
 };
 
+use super::accepted::Accepted;
 use super::{PLACE, PROMISED, VALUES};
 use messages::{Address, Ballot, Lent, Req};
 
@@ -65,14 +65,14 @@ pub struct Front {
 
 impl Front {
     // One more yes, and its promise taken over.
-    pub fn promised_by(self, promised: Ballot, mark: Option<Lent>, value_len: usize) -> Front
+    pub fn promised_by(self, accepted: Accepted) -> Front
         requires { self.acks_from < 256 }
-        ensures { result ≡ with_promise self promised mark value_len }
+        ensures { result ≡ with_promise self accepted.entry.ballot accepted.entry.mark (length (bytes_of (given accepted.entry.mark accepted.entry.bytes.now))) }
     {
         Front {
-            mark,
-            value_len,
-            promised,
+            mark: accepted.mark,
+            value_len: accepted.value().len(),
+            promised: accepted.ballot,
             acks_from: self.acks_from + 1,
             ..self
         }
@@ -132,24 +132,18 @@ impl From<Phase> for u8 {
     }
 }
 
-// Between a byte of this layout and a type of another crate, so no `From`: this and the next, `kind_code` and `mark_code`.
-fn mark_from(byte: u8) -> Option<Lent>
-    ensures { result ≡ cond (eqb byte 0) None (Some lent) }
-{
-    (byte != 0).then_some(Lent)
-}
-
-// The request without its bytes, from its kind and the marks of its two values.
+// The request without its bytes, from its kind and the marks of its two values. Bytes of this layout and a type of another crate, so no `From`:
+// this and `kind_code`.
 fn req_from(kind: u8, first: u8, second: u8) -> Req
-    ensures { result ≡ cond (eqb kind 1) Req.Get (cond (eqb kind 2) Req.Del (cond (eqb kind 3) Req.Set (Req.Cas (cond (eqb first 0) None (Some lent)) (cond (eqb second 0) None (Some lent))))) }
+    ensures { result ≡ cond (eqb kind 1) Req.Get (cond (eqb kind 2) Req.Del (cond (eqb kind 3) Req.Set (Req.Cas (of_mark first) (of_mark second)))) }
 {
     match kind {
         1 => Req::Get,
         2 => Req::Del,
         3 => Req::Set,
         _ => Req::Cas {
-            old: mark_from(first),
-            new: mark_from(second),
+            old: Lent::of_mark(first.into()),
+            new: Lent::of_mark(second.into()),
         },
     }
 }
@@ -193,6 +187,7 @@ pub fn is_free(b: &[u8; PLACE]) -> bool
 }
 
 // The ballot of a used place.
+#[tactic(auto, unfolding(crate::specs::Area::read_pending))]
 pub fn ballot(b: &[u8; PLACE]) -> Ballot
     ensures { result ≡ (read_pending b.now).ballot }
 {
@@ -200,6 +195,7 @@ pub fn ballot(b: &[u8; PLACE]) -> Ballot
 }
 
 // The arrival time of a used place.
+#[tactic(auto, unfolding(crate::specs::Area::read_pending))]
 pub fn arrival(b: &[u8; PLACE]) -> u64
     ensures { result ≡ (read_pending b.now).received_at }
 {
@@ -221,7 +217,7 @@ pub fn take(b: &[u8]) -> Front
         key_len: usize::from(b[4]),
         first_len: first,
         second_len: second,
-        mark: mark_from(b[7]),
+        mark: Lent::of_mark(b[7].into()),
         value_len: value,
         client: Address(leaf_fields::read(b, 8)),
         id: leaf_fields::read(b, 16),
@@ -245,12 +241,6 @@ fn kind_code(req: Req) -> u8
     }
 }
 
-fn mark_code(mark: Option<Lent>) -> u8
-    ensures { result ≡ mark_code mark }
-{
-    u8::from(mark.is_some())
-}
-
 // The marks of a request's two values.
 fn marks(req: Req) -> (u8, u8)
     ensures { (result.0 ≡ first_code req) × (result.1 ≡ second_code req) }
@@ -258,29 +248,15 @@ fn marks(req: Req) -> (u8, u8)
     match req {
         Req::Get | Req::Del => (0, 0),
         Req::Set => (1, 0),
-        Req::Cas { old, new } => (mark_code(old), mark_code(new)),
+        Req::Cas { old, new } => (Lent::mark(old), Lent::mark(new)),
     }
 }
 
-// Bytes 8 to 47.
-fn put_numbers(b: &mut [u8], f: Front)
-    requires { waited_at ≤ length b.old }
-    ensures { b.new ≡ sets b.old 8 (number_bytes f) }
-{
-    leaf_fields::write(b, 8, f.client.0);
-    leaf_fields::put(b, 10, 2, f.first_len as u64);
-    leaf_fields::put(b, 12, 2, f.second_len as u64);
-    leaf_fields::put(b, 14, 2, f.value_len as u64);
-    leaf_fields::write(b, 16, f.id);
-    leaf_fields::write(b, 24, f.ballot.0);
-    leaf_fields::write(b, 32, f.promised.0);
-    leaf_fields::write(b, 40, f.received_at);
-}
-
-// Bytes 0 to 7.
-fn put_marks(b: &mut [u8], f: Front)
+// The front of a place, put back. `Small` is no ghost field of `Front`: `second_phase` and `again` above take any number of entries, and would
+// have to require that it fits a byte.
+pub fn put(b: &mut [u8], f: Front)
     requires { (waited_at ≤ length b.old) × (Small f) }
-    ensures { b.new ≡ sets b.old 0 (mark_bytes f) }
+    ensures { b.new ≡ sets b.old 0 (front_bytes f) }
 {
     let (first, second) = marks(f.req);
     leaf_fields::copy(
@@ -294,16 +270,17 @@ fn put_marks(b: &mut [u8], f: Front)
             f.key_len as u8,
             first,
             second,
-            mark_code(f.mark),
+            Lent::mark(f.mark),
         ],
     );
-}
-
-// Bytes 48 to 51.
-fn put_counts(b: &mut [u8], f: Front)
-    requires { (waited_at ≤ length b.old) × (Small f) }
-    ensures { b.new ≡ sets b.old 48 (count_bytes f) }
-{
+    leaf_fields::write(b, 8, f.client.0);
+    leaf_fields::put(b, 10, 2, f.first_len as u64);
+    leaf_fields::put(b, 12, 2, f.second_len as u64);
+    leaf_fields::put(b, 14, 2, f.value_len as u64);
+    leaf_fields::write(b, 16, f.id);
+    leaf_fields::write(b, 24, f.ballot.0);
+    leaf_fields::write(b, 32, f.promised.0);
+    leaf_fields::write(b, 40, f.received_at);
     leaf_fields::copy(
         b,
         48,
@@ -314,14 +291,4 @@ fn put_counts(b: &mut [u8], f: Front)
             0,
         ],
     );
-}
-
-// The front of a place, put back.
-pub fn put(b: &mut [u8], f: Front)
-    requires { (waited_at ≤ length b.old) × (Small f) }
-    ensures { b.new ≡ sets b.old 0 (front_bytes f) }
-{
-    put_marks(b, f);
-    put_numbers(b, f);
-    put_counts(b, f);
 }

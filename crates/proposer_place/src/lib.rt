@@ -2,11 +2,13 @@
 // value; its key, values and lists stay in their rows. specs/State.antt has the request, specs/Area.antt its image.
 #![tactic(auto)]
 
+mod accepted;
 mod front;
 mod rows;
 
+pub use accepted::Accepted;
 pub use front::{Front, Phase, arrival, ballot, is_free, put, take};
-pub use rows::{again, note_no, note_promise, note_yes, second_phase, write};
+pub use rows::{Rows, again, note_no, note_promise, note_yes, second_phase, write};
 
 pub const PLACE: usize = 976;
 

@@ -1,35 +1,33 @@
 -- Promises and refused proposals of a request whose sender may answer: each return of the code is the rules' outcome.
 -- Assumes nothing.
 use Rattle.std.specs.Prelude.{◌≡◌, refl, Bool, true, false, not, cond, List, [], ◌∷◌, ◌++◌, leb, length, get_or, set}
-use Rattle.std.proofs.Common.{sym, subst, ◌∙◌, arith, le-leb}
+use Rattle.std.proofs.Common.{sym, subst, ◌∙◌, arith}
 use Rattle.std.proofs.Math.Path.{ap}
 use Rattle.std.specs.Prelude.{Option, None, Some}
-use Prim.Native.Nat.{ℕ, zero, suc, ◌+◌, ◌^◌, ◌<◌, max}
-use Rattle.std.proofs.lemmas.Bool.{not-true, not-false, lt-leb}
+use Prim.Native.Nat.{ℕ, zero, suc, ◌+◌, ◌^◌, ◌<◌}
+use Rattle.std.proofs.lemmas.Bool.{not-true, not-false}
 use Rattle.std.proofs.lemmas.List.Edits.{sets}
 use Rattle.messages.specs.declared.Address.{Address}
 use Rattle.messages.specs.declared.Ballot.{Ballot}
-use Rattle.messages.specs.declared.Error.{Error}
 use Rattle.messages.specs.declared.answer.Answer.{Answer}
 use Rattle.messages.specs.declared.answer.Refusal.{Refusal}
 use Rattle.messages.specs.Ballots.{above}
-use Rattle.messages.specs.Message.{Value, Failure, Verdict, Reply, failure_of}
+use Rattle.messages.specs.Message.{Value, Verdict}
 use Rattle.messages.specs.Limits.{value_most, list_most}
-use Rattle.messages.specs.Answers.{bytes_of, answer_of}
+use Rattle.messages.specs.Answers.{bytes_of}
 use Rattle.messages.specs.Refusals.{test, first_due}
-use Rattle.proposer_rules.specs.State.{Pending, Proposer, with_no, with_yes}
-use Rattle.proposer_rules.specs.Rules.{moved, majority_of, reached, counter_most, raised, used_up, promised_by, to_accept, to_client, replace_at, granted, rejected, promise_above, no_ballot}
+use Rattle.proposer_rules.specs.State.{Pending, Proposer, with_yes}
+use Rattle.proposer_rules.specs.Rules.{moved, majority_of, reached, promised_by, to_accept, replace_at, granted, promise_above}
 use Rattle.proposer_place.specs.declared.front.Front.{Front}
 use Rattle.proposer_place.specs.Area.{place_image, area_image, read_pending, read_area}
 use Rattle.proposer_place.specs.AreaLaws.{Short, Lawful, LawfulState, read_written, read_pending_lem}
 use Rattle.proposer_place.specs.Front.{front_of}
 use Rattle.proposer_place.specs.PlaceLaws.{lawful_yes, area_part, lawful_place_set}
 use Rattle.proposer_area.specs.Turns.{sized_of}
-use Rattle.proposer_area.specs.declared.Header.{Header}
-use Rattle.proposer_area.specs.Places.{place_at, place_in, header_in}
+use Rattle.proposer_area.specs.Places.{place_at, place_in}
 use Rattle.proposer_area.specs.Held.{Held, Pends}
 use Rattle.proposer_area.specs.HeldLaws.{state_held, with_place}
-use Rattle.proposer_works.specs.Works.{Asks, Worked, placed, accepting, retrying, granting, rejecting}
+use Rattle.proposer_works.specs.Works.{Asks, Worked, placed, accepting, granting}
 use Rattle.proposer_works.specs.WorksLaws.{refused_work, due_none}
 use Rattle.proposer_works.specs.Answerers.{more}
 
@@ -167,74 +165,3 @@ module _ (a w : List ℕ) (n i : ℕ) (f : Front) (from : Address) (b : Ballot) 
               ∙ ap area_image (sym (replaced (Some (to_accept state q))));
           written = work.written;
         })
-
--- ---- a refused proposal
-
-module _ (a w : List ℕ) (n i : ℕ) (f : Front) (h : Header) (from : Address) (last : Ballot) (b : Ballot) (v : Option Value) (counter : ℕ) (short : Bool) (held : Held a n) (asks : Asks a n i) (ef : f ≡ front_of (read_pending (place_in a i))) (eh : h ≡ header_in a) (ec : counter ≡ max h.counter last.0) (es : short ≡ not (leb (majority_of f.waiting_for) (f.nacks_from + 1))) where
-  abbrev before : Proposer
-  before = read_area a n
-
-  abbrev asked_one : Pending
-  asked_one = read_pending (place_in a i)
-
-  abbrev ballot_due : Option Refusal
-  ballot_due = first_due (test (no_ballot before asked_one from (Verdict.Denied (Failure.ProposalRejected last))) Refusal.CounterUsedUp ∷ [])
-
-  noes_reached : reached (with_no asked_one from).nacks_from asked_one.waiting_for ≡ leb (majority_of f.waiting_for) (f.nacks_from + 1)
-  unfolding front_of
-  noes_reached = rw (more asked_one.nacks_from from.0, ef)
-
-  retried_same : f.retried ≡ asked_one.retried
-  unfolding front_of
-  retried_same = ap (λ (g : Front). g.retried) ef
-
-  counter_same : counter ≡ raised before.counter last
-  unfolding read_area
-  counter_same = ec ∙ ap (λ (g : Header). max g.counter last.0) eh
-
-  at_place : (c : ℕ) (x : Option Pending) → moved before c (replace_at asked_one.ballot x before.places) ≡ placed before c i x
-  at_place c x = ap (λ (l : List (Option Pending)). moved before c l) (asks.there x)
-
-  pub refusal_noted : (a₁ : List ℕ) → short ≡ true → a₁ ≡ area_image (placed before counter i (Some (with_no asked_one from))) → Worked w (rejecting before asked_one from last b v) Answer.Nothing a₁ w
-  refusal_noted a₁ few ea =
-      let not_yet : reached (with_no asked_one from).nacks_from asked_one.waiting_for ≡ false = noes_reached ∙ not-true _ (sym es ∙ few) in
-      due_none w before ballot_due (rejected before asked_one from last) Answer.Nothing a₁ w (rw not_yet)
-      (rw not_yet
-      record {
-        answer = refl;
-        area = ea ∙ ap (λ (c : ℕ). area_image (placed before c i (Some (with_no asked_one from)))) counter_same ∙ ap area_image (sym (at_place (raised before.counter last) (Some (with_no asked_one from))));
-        written = refl;
-      })
-
-  pub refusal_told : (a₁ : List ℕ) (r : Answer) → short ≡ false → f.retried ≡ true → r ≡ answer_of (to_client asked_one (Reply.Failed (failure_of (Error.ProposalRejected last) []))) → a₁ ≡ area_image (placed before counter i None) → Worked w (rejecting before asked_one from last b v) r a₁ w
-  refusal_told a₁ r enough again er ea =
-      let now-reached : reached (with_no asked_one from).nacks_from asked_one.waiting_for ≡ true = noes_reached ∙ not-false _ (sym es ∙ enough) in
-      let retried : asked_one.retried ≡ true = sym retried_same ∙ again in
-      due_none w before ballot_due (rejected before asked_one from last) r a₁ w (rw (now-reached, retried))
-      (rw (now-reached, retried)
-      record {
-        answer = er;
-        area = ea ∙ ap (λ (c : ℕ). area_image (placed before c i None)) counter_same ∙ ap area_image (sym (at_place (raised before.counter last) None));
-        written = refl;
-      })
-
-  pub refusal_refused : short ≡ false → f.retried ≡ false → counter ≡ 18446744073709551615 → Worked w (rejecting before asked_one from last b v) (Answer.Refused Refusal.CounterUsedUp) a w
-  refusal_refused enough first full =
-      let now-reached : reached (with_no asked_one from).nacks_from asked_one.waiting_for ≡ true = noes_reached ∙ not-false _ (sym es ∙ enough) in
-      let retried : asked_one.retried ≡ false = sym retried_same ∙ first in
-      let up : used_up (raised before.counter last) ≡ true = le-leb counter_most (raised before.counter last) (omega (arith, full, counter_same)) in
-      refused_work a w before ballot_due (rejected before asked_one from last) Refusal.CounterUsedUp held.image (rw (now-reached, retried, up))
-
-  pub refusal_retried : (a₁ w₁ : List ℕ) (r : Answer) → short ≡ false → f.retried ≡ false → counter < 2 ^ 64 → (counter ≡ 18446744073709551615 → ⊥) → Worked w (retrying before counter i asked_one) r a₁ w₁ → Worked w (rejecting before asked_one from last b v) r a₁ w₁
-  refusal_retried a₁ w₁ r enough first most ne work =
-      let now-reached : reached (with_no asked_one from).nacks_from asked_one.waiting_for ≡ true = noes_reached ∙ not-false _ (sym es ∙ enough) in
-      let retried : asked_one.retried ≡ false = sym retried_same ∙ first in
-      let up : used_up (raised before.counter last) ≡ false = lt-leb counter_most (raised before.counter last) (omega (arith, most, ne, counter_same)) in
-      let done : Worked w (retrying before (raised before.counter last) i asked_one) r a₁ w₁ = rw counter_same at work in
-      due_none w before ballot_due (rejected before asked_one from last) r a₁ w₁ (rw (now-reached, retried, up))
-      (rw (now-reached, retried)
-      record {
-        answer = done.answer;
-        area = done.area ∙ ap area_image (sym (at_place (raised before.counter last + 1) _));
-        written = done.written;
-      })

@@ -1,1 +1,2 @@
 pub mod GrantLaws
+pub mod PromiseLaws

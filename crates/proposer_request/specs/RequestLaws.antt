@@ -3,7 +3,7 @@
 use Rattle.std.specs.Prelude.{◌≡◌, not, ℕ, ◌+◌, ◌-◌, ◌*◌, ◌^◌, ◌≤◌, ◌<◌, eqb, length, drop, set}
 use Rattle.std.proofs.Math.Path.{refl, sym, ap}
 use Rattle.std.proofs.Common.{◌∙◌, arith, le-leb}
-use Rattle.std.proofs.Math.Bool.{true, false, cond}
+use Rattle.std.proofs.Math.Bool.{true, false}
 use mathlib.Core.List.{List, [], ◌++◌}
 use Rattle.std.specs.Prelude.{Option, None, Some}
 use Rattle.std.proofs.lemmas.Bool.{lt-leb}
@@ -13,7 +13,6 @@ use Rattle.leaf_fields.specs.Fields.{to_le, byte, Bytes}
 use Rattle.leaf_fields.specs.Laws.{and_true}
 use Rattle.leaf_fields.specs.Rows.{bytes_none}
 use Rattle.messages.specs.declared.Address.{Address}
-use Rattle.messages.specs.declared.Lent.{Lent}
 use Rattle.messages.specs.declared.Req.{Req}
 use Rattle.messages.specs.declared.Rpc.{Rpc}
 use Rattle.messages.specs.declared.answer.Answer.{Answer}
@@ -21,9 +20,10 @@ use Rattle.messages.specs.declared.answer.Refusal.{Refusal}
 use Rattle.messages.specs.Message.{Request, Message, request_of}
 use Rattle.messages.specs.Limits.{key_most, value_most, request_fits, within_limits}
 use Rattle.messages.specs.Refusals.{first_due}
-use Rattle.messages.specs.Answers.{bytes_of, entry_bytes, request_rpc}
+use Rattle.messages.specs.Answers.{bytes_of, entry_bytes, request_rpc, rpc_of, sent_value, sent_key}
 use Rattle.messages.specs.Fit.{marked-given}
-use Rattle.proposer_rules.specs.State.{Pending, Proposer, key_of}
+use Rattle.messages.specs.declared.Ballot.{Ballot}
+use Rattle.proposer_rules.specs.State.{Pending, Proposer, key_of, new_pending}
 use Rattle.proposer_rules.specs.Rules.{used_up, no_place, counter_most, next_ballot, asked, request_tests, moved, on_request}
 use Rattle.proposer_place.specs.declared.front.Phase as Code
 use Rattle.proposer_place.specs.declared.front.Front.{Front}
@@ -31,9 +31,9 @@ use Rattle.proposer_place.specs.Area.{header_bytes, counter_at, first_value, sec
 use Rattle.proposer_place.specs.AreaLaws.{Lawful}
 use Rattle.proposer_place.specs.AreaRows.{length_entries}
 use Rattle.proposer_place.specs.AreaRead.{short_request}
-use Rattle.proposer_place.specs.Front.{front_of, front_bytes, place_rows}
+use Rattle.proposer_place.specs.Front.{front_of, front_bytes, place_rows, Small}
 use Rattle.proposer_place.specs.FrontLaws.{front_bytes_lem}
-use Rattle.proposer_place.specs.PlaceLaws.{LawfulRequest, lawful_new}
+use Rattle.proposer_place.specs.PlaceLaws.{LawfulRequest, lawful_new, small_front}
 use Rattle.proposer_area.specs.declared.Header.{Header}
 use Rattle.proposer_area.specs.Places.{place_at, header_in, free_of}
 use Rattle.proposer_area.specs.PlacesLaws.{free_some, free_none}
@@ -41,7 +41,7 @@ use Rattle.proposer_area.specs.Held.{Held}
 use Rattle.proposer_area.specs.HeldLaws.{with_both, propose_count, propose_list_lem, place_held}
 use Rattle.proposer_works.specs.Works.{answer_bytes, Worked}
 use Rattle.proposer_works.specs.WorksLaws.{refused_work, due_none}
-use Rattle.proposer_works.specs.Sent.{sent_in, broadcast_of, sent_written, sent_answer, sent_list}
+use Rattle.proposer_works.specs.Sent.{sent_in, told_in, sent_written, sent_told, sent_list}
 
 -- ---- the parts of a request that is given by its enum
 
@@ -56,6 +56,12 @@ request_key Req.Get k v w = refl
 request_key Req.Del k v w = refl
 request_key Req.Set k v w = refl
 request_key (Req.Cas old new) k v w = refl
+
+-- the front of a new request
+pub new_front : (req : Req) (k v w first second : List ℕ) (from : Address) (id at n : ℕ) (b : Ballot) (f : Front) (l : List ℕ) → first ≡ bytes_of (first_value (request_of req k v w)) → second ≡ bytes_of (second_value (request_of req k v w)) → f ≡ record { phase = Code.Phase.Propose; retried = false; req = req; key_len = length k; first_len = length first; second_len = length second; mark = None; value_len = 0; client = from; id = id; ballot = b; promised = record { 0 = 0 }; received_at = at; waiting_for = n; acks_from = 0; nacks_from = 0 } → length l ≡ n → f ≡ front_of (new_pending from id (request_of req k v w) b l at false)
+unfolding front_of
+new_front req k v w first second from id at n b f l e1 e2 ef el =
+    rw (ef, e1, e2, ← el, request_rpc_lem req k v w, request_key req k v w)
 
 -- ---- a new place
 
@@ -155,33 +161,38 @@ module _ (a w : List ℕ) (n : ℕ) (h : Header) (from : Address) (at id : ℕ) 
   lawful_here hk hv ho hf hi ha hc =
       lawful_new from id rq (next_ballot s.counter) s.propose_acceptors at false hf hi (lawful_request from id req key value other limits hk hv ho) hc held.lawful.propose ha
 
+  -- the counts of the new front fit a byte
+  pub request_small : (f : Front) → ((j : ℕ) → byte key j < 256) → ((j : ℕ) → byte value j < 256) → ((j : ℕ) → byte other j < 256) → from.0 < 2 ^ 16 → id < 2 ^ 64 → at < 2 ^ 64 → h.counter < 2 ^ 64 → (h.counter ≡ 18446744073709551615 → ⊥) → ((l : List ℕ) → length l ≡ h.propose → f ≡ front_of (new_pending from id rq (record { 0 = h.counter + 1 }) l at false)) → Small f
+  request_small f hk hv ho hf hi ha most ne ef =
+      let front : f ≡ front_of pending = rw counter_here at (ef s.propose_acceptors (sym propose_here)) in
+      rw front (small_front pending (lawful_here hk hv ho hf hi ha (omega (arith, most, ne, counter_here))))
+
   -- the area with the place taken may be held
-  pub request_held : (i : ℕ) (first second : List ℕ) (f : Front) (w₁ a₁ : List ℕ) → ((j : ℕ) → byte key j < 256) → ((j : ℕ) → byte value j < 256) → ((j : ℕ) → byte other j < 256) → from.0 < 2 ^ 16 → id < 2 ^ 64 → at < 2 ^ 64 → h.counter < 2 ^ 64 → (h.counter ≡ 18446744073709551615 → ⊥) → i < n → first ≡ bytes_of (first_value rq) → second ≡ bytes_of (second_value rq) → f ≡ record { phase = Code.Phase.Propose; retried = false; req = req; key_len = length key; first_len = length first; second_len = length second; mark = None; value_len = 0; client = from; id = id; ballot = record { 0 = h.counter + 1 }; promised = record { 0 = 0 }; received_at = at; waiting_for = h.propose; acks_from = 0; nacks_from = 0 } → w₁ ≡ sent_in w [] key list → a₁ ≡ sets a (place_at i) (place_rows (front_bytes f) (take (320 + 2 * h.propose - 320) (drop 320 w₁)) [] [] key (first ++ second) []) → Held a₁ n
-  unfolding front_of
+  pub request_held : (i : ℕ) (first second : List ℕ) (f : Front) (w₁ a₁ : List ℕ) → ((j : ℕ) → byte key j < 256) → ((j : ℕ) → byte value j < 256) → ((j : ℕ) → byte other j < 256) → from.0 < 2 ^ 16 → id < 2 ^ 64 → at < 2 ^ 64 → h.counter < 2 ^ 64 → (h.counter ≡ 18446744073709551615 → ⊥) → i < n → first ≡ bytes_of (first_value rq) → second ≡ bytes_of (second_value rq) → ((l : List ℕ) → length l ≡ h.propose → f ≡ front_of (new_pending from id rq (record { 0 = h.counter + 1 }) l at false)) → w₁ ≡ sent_in w [] key list → a₁ ≡ sets a (place_at i) (place_rows (front_bytes f) (take (320 + 2 * h.propose - 320) (drop 320 w₁)) [] [] key (first ++ second) []) → Held a₁ n
   request_held i first second f w₁ a₁ hk hv ho hf hi ha most ne within e1 e2 ef ew ea₁ =
       let lawful : Lawful pending = lawful_here hk hv ho hf hi ha (omega (arith, most, ne, counter_here)) in
-      let front : f ≡ front_of pending = rw (ef, e1, e2, propose_here, counter_here, request_rpc_lem req key value other, request_key req key value other) in
+      let front : f ≡ front_of pending = rw counter_here at (ef s.propose_acceptors (sym propose_here)) in
       let image : place_rows (front_bytes f) (take (320 + 2 * h.propose - 320) (drop 320 w₁)) [] [] key (first ++ second) [] ≡ place_image (Some pending) =
       new_image f pending _ key (first ++ second) front (ap (λ (u : List ℕ). take (320 + 2 * h.propose - 320) (drop 320 u)) ew ∙ waited_here) refl refl (sym (request_key req key value other)) (rw (e1, e2)) refl in
       place_held a n i (Some pending) a₁ held within lawful (ea₁ ∙ ap (λ (u : List ℕ). sets a (place_at i) u) image)
 
-  pub request_taken : (i : ℕ) (first second : List ℕ) (f : Front) (w₁ a₁ a₂ : List ℕ) (r : Answer) → ((j : ℕ) → byte key j < 256) → ((j : ℕ) → byte value j < 256) → ((j : ℕ) → byte other j < 256) → from.0 < 2 ^ 16 → id < 2 ^ 64 → at < 2 ^ 64 → h.counter < 2 ^ 64 → (h.counter ≡ 18446744073709551615 → ⊥) → i ≡ free_of (read_places a header_bytes n) → i ≤ n → (i ≡ n → ⊥) → first ≡ bytes_of (first_value rq) → second ≡ bytes_of (second_value rq) → f ≡ record { phase = Code.Phase.Propose; retried = false; req = req; key_len = length key; first_len = length first; second_len = length second; mark = None; value_len = 0; client = from; id = id; ballot = record { 0 = h.counter + 1 }; promised = record { 0 = 0 }; received_at = at; waiting_for = h.propose; acks_from = 0; nacks_from = 0 } → w₁ ≡ sent_in w [] key list → a₁ ≡ sets a (place_at i) (place_rows (front_bytes f) (take (320 + 2 * h.propose - 320) (drop 320 w₁)) [] [] key (first ++ second) []) → a₂ ≡ sets a₁ counter_at (to_le 8 (h.counter + 1)) → r ≡ cond (eqb h.propose 0) Answer.Nothing (Answer.Broadcast (Rpc.ProposeReq (record { 0 = h.counter + 1 })) h.propose (length key) 0) → Worked w (on_request s from at id rq) r a₂ w₁
-  unfolding read_area front_of
+  pub request_taken : (i : ℕ) (first second : List ℕ) (f : Front) (w₁ a₁ a₂ : List ℕ) (r : Answer) → ((j : ℕ) → byte key j < 256) → ((j : ℕ) → byte value j < 256) → ((j : ℕ) → byte other j < 256) → from.0 < 2 ^ 16 → id < 2 ^ 64 → at < 2 ^ 64 → h.counter < 2 ^ 64 → (h.counter ≡ 18446744073709551615 → ⊥) → i ≡ free_of (read_places a header_bytes n) → i ≤ n → (i ≡ n → ⊥) → first ≡ bytes_of (first_value rq) → second ≡ bytes_of (second_value rq) → ((l : List ℕ) → length l ≡ h.propose → f ≡ front_of (new_pending from id rq (record { 0 = h.counter + 1 }) l at false)) → w₁ ≡ sent_in w [] key list → a₁ ≡ sets a (place_at i) (place_rows (front_bytes f) (take (320 + 2 * h.propose - 320) (drop 320 w₁)) [] [] key (first ++ second) []) → a₂ ≡ sets a₁ counter_at (to_le 8 (h.counter + 1)) → r ≡ told_in (Rpc.ProposeReq (record { 0 = h.counter + 1 })) [] key list → Worked w (on_request s from at id rq) r a₂ w₁
+  unfolding read_area
   request_taken i first second f w₁ a₁ a₂ r hk hv ho hf hi ha most ne ei small ni e1 e2 ef ew ea₁ ea₂ er =
       let within : i < n = omega (arith, small, ni) in
       let free = free_some s.places i (sym ei) (omega (arith, within, held.lawful.full)) in
       let up : used_up s.counter ≡ false = not_used_up a w n h from at id rq held eh most ne in
       let lawful : Lawful pending = lawful_here hk hv ho hf hi ha (omega (arith, most, ne, counter_here)) in
-      let front : f ≡ front_of pending = rw (ef, e1, e2, propose_here, counter_here, request_rpc_lem req key value other, request_key req key value other) in
+      let front : f ≡ front_of pending = rw counter_here at (ef s.propose_acceptors (sym propose_here)) in
       let image : place_rows (front_bytes f) (take (320 + 2 * h.propose - 320) (drop 320 w₁)) [] [] key (first ++ second) [] ≡ place_image (Some pending) =
       new_image f pending _ key (first ++ second) front (ap (λ (u : List ℕ). take (320 + 2 * h.propose - 320) (drop 320 u)) ew ∙ waited_here) refl refl (sym (request_key req key value other)) (rw (e1, e2)) refl in
       let asking : Message = Message.ProposeReq (next_ballot s.counter) (key_of rq) in
       let next : h.counter + 1 ≡ s.counter + 1 = ap (λ (c : ℕ). c + 1) counter_here in
-      let sent : cond (eqb h.propose 0) Answer.Nothing (Answer.Broadcast (Rpc.ProposeReq (record { 0 = h.counter + 1 })) h.propose (length key) 0) ≡ broadcast_of s.propose_acceptors asking =
-      rw (propose_here, counter_here, request_key req key value other) in
+      let sent : told_in (Rpc.ProposeReq (record { 0 = h.counter + 1 })) [] key list ≡ told_in (rpc_of asking) (sent_value asking) (sent_key asking) (entry_bytes s.propose_acceptors) =
+      rw (list_here, counter_here, request_key req key value other) in
       due_none w s (first_due (request_tests s)) _ r a₂ w₁ (rw (up, free.room))
       record {
-        answer = er ∙ sent ∙ sent_answer s.propose_acceptors asking;
+        answer = er ∙ sent ∙ sent_told s.propose_acceptors asking;
         area =
             ea₂
             ∙ ap (λ (u : List ℕ). sets u counter_at (to_le 8 (h.counter + 1))) (ea₁ ∙ ap (λ (u : List ℕ). sets a (place_at i) u) image)

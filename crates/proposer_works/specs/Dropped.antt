@@ -6,7 +6,6 @@ use Rattle.std.specs.Prelude.{None, Some}
 use Rattle.std.proofs.lemmas.List.Edits.{sets}
 use Rattle.leaf_fields.specs.Fields.{to_le}
 use Rattle.messages.specs.declared.Address.{Address}
-use Rattle.messages.specs.declared.Lent.{Lent}
 use Rattle.messages.specs.declared.Error.{Error}
 use Rattle.messages.specs.declared.Rpc.{Rpc}
 use Rattle.messages.specs.declared.answer.Answer.{Answer}

@@ -1,3 +1,5 @@
+pub mod UsedProp
+pub mod Requests
 pub mod Works
 pub mod WorksLaws
 pub mod Sent

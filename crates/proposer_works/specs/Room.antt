@@ -1,31 +1,25 @@
--- Room for what the works lend and store: a place and the lists within the area, and the sent entries within the answer area.
+-- Room for what the works lend and store: a place and the lists within the area, the rows within a place, and the sent entries within the
+-- answer area.
 -- Assumes nothing.
-use Rattle.std.specs.Prelude.{◌≡◌, List, ℕ, ◌+◌, ◌-◌, ◌*◌, ◌≤◌, ◌<◌, length, take, drop}
+use Rattle.std.specs.Prelude.{◌≡◌, List, ℕ, ◌+◌, ◌-◌, ◌*◌, ◌≤◌, length, take, drop}
 use Rattle.std.proofs.Common.{ap, ◌∙◌, arith, length-take}
-use Rattle.std.proofs.lemmas.List.Edits.{sets}
-use Rattle.std.proofs.Math.Seq.{length-sets}
 use Rattle.leaf_fields.specs.Laws.{length-part}
 use Rattle.messages.specs.Message.{Key, Value}
-use Rattle.messages.specs.Limits.{key_most, list_most}
+use Rattle.messages.specs.Limits.{key_most, value_most, list_most}
 use Rattle.proposer_place.specs.declared.front.Front.{Front}
-use Rattle.proposer_place.specs.Area.{area_bytes, list_bytes, place_bytes, read_pending}
+use Rattle.proposer_place.specs.Area.{list_bytes, place_bytes, read_pending}
+use Rattle.proposer_place.specs.AreaLaws.{Lawful}
 use Rattle.proposer_place.specs.Front.{front_of, Used}
+use Rattle.proposer_rules.specs.State.{key_of}
 use Rattle.proposer_area.specs.Turns.{sized_of}
 use Rattle.proposer_area.specs.declared.Header.{Header}
 use Rattle.proposer_area.specs.Places.{place_at, place_in, header_in}
 use Rattle.proposer_area.specs.Held.{Held, Pends}
 use Rattle.proposer_area.specs.HeldLaws.{place_room, used_place, lawful_pending, accept_short, propose_short}
-use Rattle.proposer_works.specs.Lent.{key_is}
 use Rattle.proposer_works.specs.Works.{answer_bytes}
 use Rattle.proposer_works.specs.Sent.{sent_in, sent_length}
 
 -- ---- the area
-
-pub held_bytes : (a : List ℕ) (n : ℕ) → Held a n → length a ≡ area_bytes n
-held_bytes a n held = (sized_of a n held.sized).bytes
-
-pub held_few : (a : List ℕ) (n : ℕ) → Held a n → n ≤ 32
-held_few a n held = (sized_of a n held.sized).most
 
 pub held_header : (a : List ℕ) (n : ℕ) → Held a n → 80 + 976 ≤ length a
 held_header a n held = omega (arith, (sized_of a n held.sized).bytes, (sized_of a n held.sized).least)
@@ -35,13 +29,6 @@ held_room a n i held pends = place_room a n i held.sized pends.within
 
 pub held_used : (a : List ℕ) (n i : ℕ) → Held a n → Pends a n i → Used (place_in a i)
 held_used a n i held pends = used_place a n held i pends
-
-pub pends_within : (a : List ℕ) (n i : ℕ) → Pends a n i → i < n
-pends_within a n i pends = pends.within
-
--- a store keeps the header
-pub header_kept : (a b ys : List ℕ) (n i : ℕ) → Held a n → b ≡ sets a (place_at i) ys → 80 ≤ length b
-header_kept a b ys n i held e = rw e (rw (length-sets a (place_at i) ys) (omega (arith, held_header a n held)))
 
 -- ---- the lists
 
@@ -60,31 +47,42 @@ accept_lent a n h held eh = lent_short a 20 (2 * h.accept) 30 (omega (arith, acc
 pub propose_lent : (a : List ℕ) (n : ℕ) (h : Header) → Held a n → h ≡ header_in a → length (take (50 + 2 * h.propose - 50) (drop 50 a)) ≤ list_bytes
 propose_lent a n h held eh = lent_short a 50 (2 * h.propose) 30 (omega (arith, propose_few a n h held eh))
 
--- ---- the parts of a place that a front gives the lengths of
+-- ---- what a front says of a pending request
 
-pub record Bounds (a : List ℕ) (i : ℕ) (f : Front) (h : Header) : Type 0 where
-  pub within : place_at i + place_bytes ≤ length a
-  pub most : length a ≤ area_bytes 32
-  pub key : f.key_len < 256
-  pub values : f.first_len + f.second_len ≤ 768
-  pub promised : f.value_len ≤ 256
-  pub accept : h.accept ≤ list_most
+module _ (b : List ℕ) (f : Front) (used : Used b) (ef : f ≡ front_of (read_pending b)) where
+  lawful : Lawful (read_pending b)
+  lawful = used.lawful
 
-pub bounds_of : (a : List ℕ) (n i : ℕ) (f : Front) (h : Header) → Held a n → Pends a n i → h ≡ header_in a → f.key_len < 256 → f.first_len + f.second_len ≤ 768 → f.value_len ≤ 256 → Bounds a i f h
-bounds_of a n i f h held pends eh key values promised =
-    record {
-      within = held_room a n i held pends;
-      most = omega (arith, held_bytes a n held, held_few a n held);
-      key = key;
-      values = values;
-      promised = promised;
-      accept = accept_few a n h held eh;
-    }
+  pub key_few : f.key_len ≤ key_most
+  unfolding front_of
+  key_few = omega (arith, ap (λ (g : Front). g.key_len) ef, lawful.key.short)
 
--- ---- the key of a pending request
+  pub first_few : f.first_len ≤ value_most
+  unfolding front_of
+  first_few = omega (arith, ap (λ (g : Front). g.first_len) ef, lawful.first.short)
 
-pub key_short : (a : List ℕ) (n i : ℕ) (f : Front) → Held a n → Pends a n i → f ≡ front_of (read_pending (place_in a i)) → length (take (80 + 976 * i + 144 + f.key_len - (80 + 976 * i + 144)) (drop (80 + 976 * i + 144) a)) ≤ key_most
-key_short a n i f held pends ef = rw (key_is a n i f held pends ef) (lawful_pending a n held i pends).key.short
+  pub second_few : f.second_len ≤ value_most
+  unfolding front_of
+  second_few = omega (arith, ap (λ (g : Front). g.second_len) ef, lawful.second.short)
+
+  pub promised_few : f.value_len ≤ value_most
+  unfolding front_of
+  promised_few = omega (arith, ap (λ (g : Front). g.value_len) ef, lawful.promised.short)
+
+  pub waited_few : f.waiting_for ≤ list_most
+  unfolding front_of
+  waited_few = omega (arith, ap (λ (g : Front). g.waiting_for) ef, lawful.waited.short)
+
+  pub yeses_few : f.acks_from ≤ list_most
+  unfolding front_of
+  yeses_few = omega (arith, ap (λ (g : Front). g.acks_from) ef, lawful.yeses.short)
+
+  pub noes_few : f.nacks_from ≤ list_most
+  unfolding front_of
+  noes_few = omega (arith, ap (λ (g : Front). g.nacks_from) ef, lawful.noes.short)
+
+pub key_short : (a : List ℕ) (n i : ℕ) → Held a n → Pends a n i → length (key_of (read_pending (place_in a i)).req) ≤ key_most
+key_short a n i held pends = (lawful_pending a n held i pends).key.short
 
 -- ---- the sent entries
 

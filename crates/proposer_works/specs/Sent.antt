@@ -1,11 +1,12 @@
 -- A message to each entry of a list: what `send` leaves in the answer area, and the enum beside it, are 01's answer.
 -- Assumes nothing.
-use Rattle.std.specs.Prelude.{◌≡◌, refl, Bool, true, false, cond, List, [], ◌∷◌, ℕ, ◌+◌, ◌-◌, ◌*◌, ◌≤◌, eqb, length, take, drop}
+use Rattle.std.specs.Prelude.{◌≡◌, refl, Bool, true, false, cond, List, [], ◌∷◌, ℕ, ◌+◌, ◌-◌, ◌*◌, ◌/◌, ◌≤◌, eqb, length, take, drop}
 use Rattle.std.proofs.Common.{ap, ◌∙◌, arith, eqb-true, ne_eqb}
 use Rattle.std.proofs.lemmas.List.Edits.{sets}
 use Rattle.std.proofs.Math.Seq.{length-sets}
 use Rattle.leaf_fields.specs.Fields.{part}
 use Rattle.leaf_fields.specs.Laws.{part_same}
+use Rattle.messages.specs.declared.Rpc.{Rpc}
 use Rattle.messages.specs.declared.answer.Answer.{Answer}
 use Rattle.messages.specs.Message.{Key, Value, Message}
 use Rattle.messages.specs.Limits.{list_most}
@@ -18,17 +19,20 @@ abbrev pub sent_in : List ℕ → Value → Key → List ℕ → List ℕ
 sent_in w v k l = cond (eqb (length l) 0) w (sets (sets (sets w 0 v) key_at k) entries_at l)
 
 -- the enum beside it
-abbrev pub broadcast_of : List ℕ → Message → Answer
-broadcast_of l m = cond (eqb (length l) 0) Answer.Nothing (Answer.Broadcast (rpc_of m) (length l) (length (sent_key m)) (length (sent_value m)))
+abbrev pub told_in : Rpc → Value → Key → List ℕ → Answer
+told_in rpc v k l = cond (eqb (length l) 0) Answer.Nothing (Answer.Broadcast rpc (length l / 2) (length k) (length v))
 
 pub sent_written : (w l : List ℕ) (m : Message) → sent_in w (sent_value m) (sent_key m) (entry_bytes l) ≡ written_in w (to_each l m)
 unfolding entry_bytes
 sent_written w [] m = refl
 sent_written w (x ∷ l) m = rw (ne_eqb (length (entry_bytes (x ∷ l))) 0 (λ h. omega (arith, h, length_entries (x ∷ l))))
 
-pub sent_answer : (l : List ℕ) (m : Message) → broadcast_of l m ≡ answer_of (to_each l m)
-sent_answer [] m = refl
-sent_answer (x ∷ l) m = rw (ne_eqb (length (x ∷ l)) 0 (λ h. omega (arith, h)))
+pub sent_told : (l : List ℕ) (m : Message) → told_in (rpc_of m) (sent_value m) (sent_key m) (entry_bytes l) ≡ answer_of (to_each l m)
+unfolding entry_bytes
+sent_told [] m = refl
+sent_told (x ∷ l) m =
+    let many : length (entry_bytes (x ∷ l)) / 2 ≡ length (x ∷ l) = omega (arith, length_entries (x ∷ l)) in
+    rw (ne_eqb (length (entry_bytes (x ∷ l))) 0 (λ h. omega (arith, h, length_entries (x ∷ l))), many)
 
 pub sent_length : (w : List ℕ) (v : Value) (k : Key) (l : List ℕ) → length (sent_in w v k l) ≡ length w
 sent_length w v k l = go (eqb (length l) 0)

@@ -1,6 +1,6 @@
 -- The works of a message on an area that is an image: what holds where one begins, and its outcome by the place that it is done on.
 -- Assumes nothing.
-use Rattle.std.specs.Prelude.{◌≡◌, List, [], ◌∷◌, ℕ, ◌+◌, ◌*◌, ◌<◌, length, set}
+use Rattle.std.specs.Prelude.{◌≡◌, true, false, List, [], ◌∷◌, ℕ, ◌+◌, ◌*◌, ◌<◌, length, set}
 use Rattle.std.specs.Prelude.{Option, None, Some}
 use Rattle.messages.specs.declared.Address.{Address}
 use Rattle.messages.specs.declared.Ballot.{Ballot}
@@ -10,12 +10,13 @@ use Rattle.messages.specs.Message.{Value, Failure, Verdict, Message}
 use Rattle.messages.specs.Limits.{list_most}
 use Rattle.messages.specs.Refusals.{test, first_due}
 use Rattle.messages.specs.Answers.{rows_at, row_bytes, answer_of, written_in}
-use Rattle.proposer_rules.specs.State.{Pending, Proposer, key_of, asked_again}
-use Rattle.proposer_rules.specs.Rules.{Outcome, outcome, unless, moved, next_ballot, proposals, to_each, to_client, to_accept, applied, reply_of, replace_at, promise_above, no_ballot, promise_work}
+use Rattle.proposer_rules.specs.State.{Pending, Proposer, key_of, with_no, asked_again}
+use Rattle.proposer_rules.specs.Rules.{Outcome, outcome, unless, moved, reached, raised, next_ballot, proposals, to_each, to_client, to_accept, applied, reply_of, replace_at, promise_above, no_ballot, promise_work}
 use Rattle.proposer_place.specs.Area.{area_image, read_area, read_pending}
 use Rattle.proposer_area.specs.Places.{place_in}
 use Rattle.proposer_area.specs.declared.area.Area.{Area}
 use Rattle.proposer_area.specs.Held.{Pends}
+use Rattle.proposer_area.specs.State.{state, pending, Becomes}
 
 -- ---- where a work begins
 
@@ -51,6 +52,17 @@ pub record WorkedOn (a : Area) (w : List ℕ) (o : Outcome) (r : Answer) (a' : A
 -- the state with another counter and other content of place i
 abbrev pub placed : Proposer → ℕ → ℕ → Option Pending → Proposer
 placed s c i q = moved s c (set s.places i q)
+
+-- one more no at place i that makes no majority: it is noted, and the counter raised to what its message says
+pub record Noted (a b : Area) (i : ℕ) (from : Address) (last : Ballot) : Type 0 where
+  pub short : reached (with_no (pending a i) from).nacks_from (pending a i).waiting_for ≡ false
+  pub becomes : Becomes a b (placed (state a) (raised (state a).counter last) i (Some (with_no (pending a i) from)))
+
+-- one that makes a majority: the counter raised so, and nothing has moved
+pub record Outvoted (a b : Area) (i : ℕ) (from : Address) (last : Ballot) (c : ℕ) : Type 0 where
+  pub enough : reached (with_no (pending a i) from).nacks_from (pending a i).waiting_for ≡ true
+  pub counter : c ≡ raised (state a).counter last
+  pub same : b ≡ a
 
 -- the second phase of the request at place i
 abbrev pub accepting : Proposer → ℕ → Pending → Outcome

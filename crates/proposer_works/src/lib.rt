@@ -1,9 +1,11 @@
-// What the works of the proposer's messages share: a message to each entry of a list in the answer area, the test for a majority, and
-// a request dropped or a no noted with another counter. What a work is stands in specs/Works.antt.
+// What the works of the proposer's messages share: a message to each entry of a list in the answer area, the pending request as it is
+// read, the test for a majority, and a request dropped or a no noted with another counter. What a work is stands in specs/Works.antt.
 #![tactic(auto)]
 
-ghost use Rattle.std.specs.Prelude.{◌≡◌, cond, not, [], ◌≤◌, max, eqb, leb, length};
-ghost use Rattle.std.specs.Prelude.{None, Some};
+mod request;
+
+ghost use Rattle.std.specs.Prelude.{◌≡◌, cond, not, [], ◌≤◌, ◌/◌, eqb, leb, length};
+ghost use Rattle.std.specs.Prelude.{None, Some, MatchOption};
 ghost use Rattle.std.proofs.lemmas.List.Edits.{sets};
 ghost use Rattle.messages.specs.Message.{Reply, failure_of};
 ghost use Rattle.messages.specs.Limits.{key_most, value_most};
@@ -12,40 +14,33 @@ ghost use Rattle.proposer_rules.specs.State.{with_no};
 ghost use Rattle.proposer_rules.specs.Rules.{majority_of, to_client};
 ghost use Rattle.proposer_place.specs.Area.{list_bytes};
 ghost use Rattle.proposer_area.specs.State.{state, pending, HasPending, Becomes};
-ghost use Rattle.proposer_works.specs.Works.{MayAsk, placed};
+ghost use Rattle.proposer_works.specs.Works.{MayAsk, Noted, Outvoted, placed};
 
 pub use messages::{ENTRIES_AT, KEY_AT, ROW, ROWS_AT};
-use messages::{Address, Answer, Error, Rpc};
+use messages::{Address, Answer, Ballot, ENTRY, Error, Rpc};
 use proposer_area::Area;
+pub use request::{Request, request_at};
 
 // The largest counter: no ballot is above it.
 pub const COUNTER_MOST: u64 = u64::MAX;
 
-// The value, the key and the entries of a message. A list without entries is the answer nothing, which needs no bytes.
-pub fn send(answer: &mut [u8], value: &[u8], key: &[u8], list: &[u8])
+// A message to each entry of a list: its value, its key and the entries are put into the answer area, and the enum is answered. A list
+// without entries is the answer nothing, which needs no bytes.
+pub fn send(answer: &mut [u8], rpc: Rpc, value: &[u8], key: &[u8], list: &[u8]) -> Answer
     requires { (rows_at ≤ length answer.old) × (length value.now ≤ value_most) × (length key.now ≤ key_most) × (length list.now ≤ list_bytes) }
-    ensures { answer.new ≡ cond (eqb (length list.now) 0) answer.old (sets (sets (sets answer.old 0 value.now) key_at key.now) entries_at list.now) }
+    ensures { (answer.new ≡ cond (eqb (length list.now) 0) answer.old (sets (sets (sets answer.old 0 value.now) key_at key.now) entries_at list.now)) × (result ≡ cond (eqb (length list.now) 0) Answer.Nothing (Answer.Broadcast rpc (length list.now / 2) (length key.now) (length value.now))) }
 {
     if list.is_empty() {
-        return;
+        return Answer::Nothing;
     }
     leaf_fields::copy(answer, 0, value);
     leaf_fields::copy(answer, KEY_AT, key);
     leaf_fields::copy(answer, ENTRIES_AT, list);
-}
-
-// The enum beside it.
-pub fn broadcast(rpc: Rpc, entries: usize, key_len: usize, value_len: usize) -> Answer
-    ensures { result ≡ cond (eqb entries 0) Answer.Nothing (Answer.Broadcast rpc entries key_len value_len) }
-{
-    if entries == 0 {
-        return Answer::Nothing;
-    }
     Answer::Broadcast {
         rpc,
-        entries,
-        key_len,
-        value_len,
+        entries: list.len() / ENTRY,
+        key_len: key.len(),
+        value_len: value.len(),
     }
 }
 
@@ -55,6 +50,9 @@ pub fn short_of(answers: usize, n: usize) -> bool
 {
     answers < proposer_change::majority(n)
 }
+
+// What is done at place i takes the area and i, and requires what the place then holds: a type of both would hold the `&mut Area`, and
+// each work would have to promise of two lenders that they stay.
 
 // The request at place i dropped, its client told an error, and the counter raised.
 pub fn drop_with(area: &mut Area<'_>, i: usize, counter: u64, error: Error) -> Answer
@@ -71,11 +69,27 @@ pub fn drop_with(area: &mut Area<'_>, i: usize, counter: u64, error: Error) -> A
     }
 }
 
-// One more no at place i, and the counter raised.
-pub fn raise_with(area: &mut Area<'_>, i: usize, counter: u64, from: Address)
+// One more no at place i, and another counter.
+fn raise_with(area: &mut Area<'_>, i: usize, counter: u64, from: Address)
     requires { MayAsk area.old i }
     ensures { Becomes area.old area.new (placed (state area.old) counter i (Some (with_no (pending area.old i) from))) }
 {
     proposer_area::note_no(area.bytes, i, from);
     proposer_area::put_counter(area.bytes, counter);
+}
+
+// One more no at place i, whose message has `last`: short of a majority it is noted and the counter raised; else the raised counter, and
+// nothing has moved.
+pub fn noted(area: &mut Area<'_>, i: usize, from: Address, last: Ballot) -> Option<u64>
+    requires { MayAsk area.old i }
+    ensures { MatchOption result (Noted area.old area.new i from last) (λ counter. Outvoted area.old area.new i from last counter) }
+{
+    let h = area.header();
+    let f = proposer_area::take_place(area, i);
+    let counter = h.counter.max(last.0);
+    if short_of(f.nacks_from + 1, f.waiting_for) {
+        raise_with(area, i, counter, from);
+        return None;
+    }
+    Some(counter)
 }

@@ -10,7 +10,7 @@ use script_run::Bench;
 use std::io::{Read, Write};
 
 // A proved loop has to end, and nothing says that the input does: lines are counted up to a number that no script has.
-const LINES_MOST: u64 = 1099511627776;
+const LINES_MOST: u64 = 1 << 40;
 
 // Room for what one line puts out: at most a whole table, 1,025 blocks of up to 1,036 bytes each.
 const LINE_ROOM: usize = 1100000;

@@ -1,6 +1,6 @@
 -- The steps of a script, as docs/SCRIPT.md has its lines. A line is its words w, of which it has n; the first is w 0, and past the last each is empty.
 -- Assumes nothing.
-use Rattle.std.specs.Prelude.{Bool, cond, List, [], ℕ, eqb, Option, Some, None}
+use Rattle.std.specs.Prelude.{Bool, option_map, cond, List, [], ℕ, eqb, Option, Some, None}
 use Rattle.leaf_fields.specs.Fields.{same}
 use Rattle.messages.specs.declared.Address.{Address}
 use Rattle.messages.specs.declared.Rpc.{Rpc}
@@ -11,26 +11,11 @@ use Rattle.script_message.specs.Messages.{message_in}
 use Rattle.script_message.specs.Words.{words_at, list_at, message_words}
 use Rattle.script.specs.declared.step.Step.{Step}
 
--- `acceptor REGISTERS`
-abbrev pub acceptor_by : Option ℕ → Option Step
-acceptor_by None = None
-acceptor_by (Some registers) = Some (Step.Acceptor registers)
-
 -- `proposer PLACES TIMEOUT LIST`
 abbrev pub proposer_by : Option ℕ → Option ℕ → Bool → Option Step
 proposer_by None t l = None
 proposer_by (Some places) None l = None
 proposer_by (Some places) (Some timeout) l = cond l (Some (Step.Proposer places timeout)) None
-
--- `clock TIME`
-abbrev pub clock_by : Option ℕ → Option Step
-clock_by None = None
-clock_by (Some time) = Some (Step.Clock time)
-
--- `tick TIME`
-abbrev pub tick_by : Option ℕ → Option Step
-tick_by None = None
-tick_by (Some time) = Some (Step.Tick time)
 
 -- `lend CAPACITY BYTES AREA`
 abbrev pub lend_by : Option ℕ → Option ℕ → Option ℕ → Option Step
@@ -63,13 +48,13 @@ lent_in name w n =
     (cond (same name (letters "area")) (of_words n 1 (Some Step.Area))
     (sent_by (address_of (w 0)) (message_in w n)))))
 
--- the step of a line; none where it is unreadable
+-- the step of a line, `tick TIME`, `acceptor REGISTERS`, `proposer ..`, `clock TIME` or another; none where it is unreadable
 unfoldable pub step_in : (ℕ → List ℕ) → ℕ → Option Step
 step_in w n =
-    cond (same (w 0) (letters "tick")) (of_words n 2 (tick_by (number_of (w 1))))
-    (cond (same (w 0) (letters "acceptor")) (of_words n 2 (acceptor_by (number_of (w 1))))
+    cond (same (w 0) (letters "tick")) (of_words n 2 (option_map Step.Tick (number_of (w 1))))
+    (cond (same (w 0) (letters "acceptor")) (of_words n 2 (option_map Step.Acceptor (number_of (w 1))))
     (cond (same (w 0) (letters "proposer")) (of_words n 4 (proposer_by (number_of (w 1)) (number_of (w 2)) (list_word (w 3))))
-    (cond (same (w 0) (letters "clock")) (of_words n 2 (clock_by (number_of (w 1))))
+    (cond (same (w 0) (letters "clock")) (of_words n 2 (option_map Step.Clock (number_of (w 1))))
     (lent_in (w 0) w n))))
 
 -- the words that hold a step's bytes and its list

@@ -141,7 +141,8 @@ fn step_places(step: Step) -> Places
     }
 }
 
-// The word at a place; the empty word where there is no place.
+// The word at a place; the empty word where there is no place. Tried with `map_or`: what its closure hands on of the borrowed words is not
+// known then, and `returns` stays open.
 fn word_in<'a>(words: &Words<'a>, place: Option<usize>) -> &'a [u8]
     ensures { result.now ≡ word_in (word_at words.now) place }
 {

@@ -5,7 +5,6 @@ use Rattle.std.specs.Prelude.{Some}
 use Rattle.leaf_fields.specs.Fields.{from_le, to_le, all_zero}
 use Rattle.messages.specs.declared.Address.{Address}
 use Rattle.messages.specs.declared.Ballot.{Ballot}
-use Rattle.messages.specs.declared.Lent.{Lent}
 use Rattle.messages.specs.declared.Error.{Error}
 use Rattle.messages.specs.declared.Rpc.{Rpc}
 use Rattle.messages.specs.declared.answer.Answer.{Answer}

@@ -67,7 +67,7 @@ fn put_entry<const N: usize>(out: &mut Output<N>, entry: &[u8])
     out.put_number(leaf_fields::read::<u16>(entry, 0) as u64);
 }
 
-// The n entries that a broadcast goes to, as a list; those that the area has room for.
+// The n entries that a broadcast goes to, as a list; those that the area has room for. The number beside the area, as an `Answer` has it.
 fn put_list<const N: usize>(out: &mut Output<N>, area: &[u8], n: usize)
     ensures { out.new ≡ put N out.old (list_text (entries_in area.now entries_at n)) }
 {
@@ -111,6 +111,7 @@ fn put_one<const N: usize>(out: &mut Output<N>, to: Address, rpc: Rpc, value: &[
     put_message(out, rpc, b"", value, value);
 }
 
+// The parts of an `Answer::Broadcast`, with the area that its entries stand in.
 fn put_each<const N: usize>(
     out: &mut Output<N>,
     rpc: Rpc,

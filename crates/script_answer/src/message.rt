@@ -81,6 +81,7 @@ fn put_res<const N: usize>(out: &mut Output<N>, res: Result<(), Error>, other: &
     }
 }
 
+// As one function with `put_res` it would take what an `Ok` puts as a closure, for the one line in which they differ.
 fn put_response<const N: usize>(
     out: &mut Output<N>,
     response: Result<Option<Lent>, Error>,

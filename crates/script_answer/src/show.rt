@@ -6,7 +6,7 @@ ghost use Rattle.script_answer.specs.Lines.{kept_of, area_line, block_line};
 use super::message::put_numbered;
 use script_words::Output;
 
-// The bytes before the zeros at the end.
+// The bytes before the zeros at the end: a `while let` on the slice's pattern, with no index.
 fn kept(mut s: &[u8]) -> &[u8]
     ensures { result.now ≡ take (kept_of s.now) s.now }
 {

@@ -1,7 +1,7 @@
 -- The messages of a script, as docs/SCRIPT.md has its lines. A line is its words w, of which it has n; the first is w 0, and past the last each is empty.
 -- Assumes nothing.
 use Rattle.messages.specs.Message.{lent}
-use Rattle.std.specs.Prelude.{Result, cond, List, ℕ, ◌+◌, eqb, Option, Some, None, Ok, Err}
+use Rattle.std.specs.Prelude.{Result, option_map, cond, List, ℕ, ◌+◌, eqb, Option, Some, None, Ok, Err}
 use Rattle.messages.specs.declared.Ballot.{Ballot}
 use Rattle.messages.specs.declared.Lent.{Lent}
 use Rattle.messages.specs.declared.Req.{Req}
@@ -27,45 +27,28 @@ rejection_by name (Some b) =
     cond (same name (letters "ProposalRejected")) (Some (Error.ProposalRejected (ballot b)))
     (cond (same name (letters "AcceptRejected")) (Some (Error.AcceptRejected (ballot b))) None)
 
--- `CasFailed OPT`
-abbrev pub compare_by : Option (Option Lent) → Option Error
-compare_by None = None
-compare_by (Some o) = Some (Error.CasFailed o)
-
 -- ERROR at word i, which ends the line
 unfoldable pub failure_in : (ℕ → List ℕ) → ℕ → ℕ → Option Error
 failure_in w n i =
     cond (same (w i) (letters "Timeout"))
     (cond (eqb n (i + 1)) (Some Error.Timeout) None)
     (cond (eqb n (i + 2))
-    (cond (same (w i) (letters "CasFailed")) (compare_by (given_by (w (i + 1)))) (rejection_by (w i) (number_of (w (i + 1)))))
+    (cond (same (w i) (letters "CasFailed")) (option_map Error.CasFailed (given_by (w (i + 1)))) (rejection_by (w i) (number_of (w (i + 1)))))
     None)
 
-abbrev pub result_by : Option Error → Option (Result Unit Error)
-result_by None = None
-result_by (Some e) = Some (Err e)
+-- `Ok`, with what was read behind it, or `Err ERROR` at word i, which ends the line
+unfoldable pub outcome_in : {A : Type 0} → (ℕ → List ℕ) → ℕ → ℕ → Option A → Option (Result A Error)
+outcome_in w n i done =
+    cond (same (w i) (letters "Ok")) (option_map Ok done)
+    (cond (same (w i) (letters "Err")) (option_map Err (failure_in w n (i + 1))) None)
 
 -- `Ok` or `Err ERROR` at word i, which ends the line
 unfoldable pub result_in : (ℕ → List ℕ) → ℕ → ℕ → Option (Result Unit Error)
-result_in w n i =
-    cond (same (w i) (letters "Ok"))
-    (cond (eqb n (i + 1)) (Some (Ok tt)) None)
-    (cond (same (w i) (letters "Err")) (result_by (failure_in w n (i + 1))) None)
-
-abbrev pub done_by : Option (Option Lent) → Option (Result (Option Lent) Error)
-done_by None = None
-done_by (Some o) = Some (Ok o)
-
-abbrev pub replied_by : Option Error → Option (Result (Option Lent) Error)
-replied_by None = None
-replied_by (Some e) = Some (Err e)
+result_in w n i = outcome_in w n i (cond (eqb n (i + 1)) (Some tt) None)
 
 -- `Ok OPT` or `Err ERROR` at word 3
 unfoldable pub replied_in : (ℕ → List ℕ) → ℕ → Option (Result (Option Lent) Error)
-replied_in w n =
-    cond (same (w 3) (letters "Ok"))
-    (cond (eqb n 5) (done_by (given_by (w 4))) None)
-    (cond (same (w 3) (letters "Err")) (replied_by (failure_in w n 4)) None)
+replied_in w n = outcome_in w n 3 (cond (eqb n 5) (given_by (w 4)) None)
 
 abbrev pub cas_by : Option (Option Lent) → Option (Option Lent) → Option Req
 cas_by None new = None
@@ -90,14 +73,6 @@ asked_in w n =
 
 -- ---- a message, from word 1 on
 
-abbrev pub request_by : ℕ → Option Req → Option Rpc
-request_by id None = None
-request_by id (Some r) = Some (Rpc.ClientRequest id r)
-
-abbrev pub response_by : ℕ → Option (Result (Option Lent) Error) → Option Rpc
-response_by id None = None
-response_by id (Some r) = Some (Rpc.ClientResponse id r)
-
 -- `ProposeReq BALLOT KEY`
 unfoldable pub propose_req_in : (ℕ → List ℕ) → ℕ → Ballot → Option Rpc
 propose_req_in w n b = cond (eqb n 4) (cond (bytes_word (w 3)) (Some (Rpc.ProposeReq b)) None) None
@@ -112,21 +87,13 @@ propose_res_by b (Some a) (Some o) (Some r) = Some (Rpc.ProposeRes b (ballot a) 
 unfoldable pub propose_res_in : (ℕ → List ℕ) → ℕ → Ballot → Option Rpc
 propose_res_in w n b = propose_res_by b (number_of (w 3)) (given_by (w 4)) (result_in w n 5)
 
-abbrev pub accept_req_by : Ballot → Option (Option Lent) → Option Rpc
-accept_req_by b None = None
-accept_req_by b (Some o) = Some (Rpc.AcceptReq b o)
-
 -- `AcceptReq BALLOT KEY OPT`
 unfoldable pub accept_req_in : (ℕ → List ℕ) → ℕ → Ballot → Option Rpc
-accept_req_in w n b = cond (eqb n 5) (cond (bytes_word (w 3)) (accept_req_by b (given_by (w 4))) None) None
-
-abbrev pub accept_res_by : Ballot → Option (Result Unit Error) → Option Rpc
-accept_res_by b None = None
-accept_res_by b (Some r) = Some (Rpc.AcceptRes b r)
+accept_req_in w n b = cond (eqb n 5) (cond (bytes_word (w 3)) (option_map (Rpc.AcceptReq b) (given_by (w 4))) None) None
 
 -- `AcceptRes BALLOT Ok`, `AcceptRes BALLOT Err ERROR`
 abbrev pub accept_res_in : (ℕ → List ℕ) → ℕ → Ballot → Option Rpc
-accept_res_in w n b = accept_res_by b (result_in w n 3)
+accept_res_in w n b = option_map (Rpc.AcceptRes b) (result_in w n 3)
 
 -- `SetAcceptAcceptors LIST`, `SetProposeAcceptors LIST`
 unfoldable pub list_in : (ℕ → List ℕ) → ℕ → Rpc → Option Rpc
@@ -139,8 +106,8 @@ numbered_in name w n x =
     (cond (same name (letters "AcceptReq")) (accept_req_in w n (ballot x))
     (cond (same name (letters "ProposeRes")) (propose_res_in w n (ballot x))
     (cond (same name (letters "AcceptRes")) (accept_res_in w n (ballot x))
-    (cond (same name (letters "ClientRequest")) (request_by x (asked_in w n))
-    (cond (same name (letters "ClientResponse")) (response_by x (replied_in w n)) None)))))
+    (cond (same name (letters "ClientRequest")) (option_map (Rpc.ClientRequest x) (asked_in w n))
+    (cond (same name (letters "ClientResponse")) (option_map (Rpc.ClientResponse x) (replied_in w n)) None)))))
 
 abbrev pub numbered_by : List ℕ → (ℕ → List ℕ) → ℕ → Option ℕ → Option Rpc
 numbered_by name w n None = None

@@ -7,6 +7,7 @@ ghost use Rattle.script_message.specs.Messages.{
   given_by,
   rejection_by,
   failure_in,
+  outcome_in,
   result_in,
   replied_in,
   cas_in,
@@ -66,15 +67,15 @@ fn read_error(words: &Words<'_>, i: usize) -> Option<Error>
     read_rejection(name, last)
 }
 
-// `Ok` or `Err ERROR` at word i, which ends the line.
-#[tactic(auto, unfolding(crate::specs::Messages::result_in))]
-fn read_res(words: &Words<'_>, i: usize) -> Option<Result<(), Error>>
+// At word i `Ok`, with what was read behind it, or `Err ERROR`, which ends the line.
+#[tactic(auto, unfolding(crate::specs::Messages::outcome_in))]
+fn read_outcome<T: Copy>(words: &Words<'_>, i: usize, done: Option<T>) -> Option<Result<T, Error>>
     requires { i < 7 }
-    ensures { result ≡ result_in (word_at words.now) words.now.n i }
+    ensures { result ≡ outcome_in (word_at words.now) words.now.n i done }
 {
     let name = words.word(i);
     if same(name, b"Ok") {
-        return (words.n == i + 1).then_some(Ok(()));
+        return Some(Ok(done?));
     }
     if same(name, b"Err") {
         return Some(Err(read_error(words, i + 1)?));
@@ -82,22 +83,26 @@ fn read_res(words: &Words<'_>, i: usize) -> Option<Result<(), Error>>
     None
 }
 
+// `Ok` or `Err ERROR` at word i, which ends the line.
+#[tactic(auto, unfolding(crate::specs::Messages::result_in))]
+fn read_res(words: &Words<'_>, i: usize) -> Option<Result<(), Error>>
+    requires { i < 7 }
+    ensures { result ≡ result_in (word_at words.now) words.now.n i }
+{
+    read_outcome(words, i, (words.n == i + 1).then_some(()))
+}
+
 // `Ok OPT` or `Err ERROR` at word 3.
 #[tactic(auto, unfolding(crate::specs::Messages::replied_in))]
 fn read_response(words: &Words<'_>) -> Option<Result<Option<Lent>, Error>>
     ensures { result ≡ replied_in (word_at words.now) words.now.n }
 {
-    let name = words.word(3);
-    if same(name, b"Ok") {
-        if words.n != 5 {
-            return None;
-        }
-        return Some(Ok(read_option(words.word(4))?));
-    }
-    if same(name, b"Err") {
-        return Some(Err(read_error(words, 4)?));
-    }
-    None
+    let value = if words.n == 5 {
+        read_option(words.word(4))
+    } else {
+        None
+    };
+    read_outcome(words, 3, value)
 }
 
 // `Cas` with its two values at words 5 and 6.

@@ -1,6 +1,6 @@
 // Which words of a message's line hold its bytes.
 ghost use Rattle.std.specs.Prelude.{◌≡◌};
-ghost use Rattle.script_message.specs.Words.{if_some, error_word, res_word, req_words, response_words, message_words};
+ghost use Rattle.script_message.specs.Words.{error_word, res_word, req_words, response_words, message_words};
 
 use messages::{Error, Lent, Req, Rpc};
 
@@ -22,21 +22,12 @@ impl Places {
     };
 }
 
-fn if_some(o: Option<Lent>, place: usize) -> Option<usize>
-    ensures { result ≡ if_some o place }
-{
-    match o {
-        None => None,
-        Some(_) => Some(place),
-    }
-}
-
 // The value of an error whose last word stands at a place.
 fn error_place(e: Error, place: usize) -> Option<usize>
     ensures { result ≡ error_word e place }
 {
     match e {
-        Error::CasFailed(o) => if_some(o, place),
+        Error::CasFailed(o) => o.and(Some(place)),
         _ => None,
     }
 }
@@ -44,10 +35,7 @@ fn error_place(e: Error, place: usize) -> Option<usize>
 fn res_place(res: Result<(), Error>, place: usize) -> Option<usize>
     ensures { result ≡ res_word res place }
 {
-    match res {
-        Ok(_) => None,
-        Err(e) => error_place(e, place),
-    }
+    error_place(res.err()?, place)
 }
 
 fn req_places(req: Req) -> Places
@@ -64,8 +52,8 @@ fn req_places(req: Req) -> Places
             ..keyed
         },
         Req::Cas { old, new } => Places {
-            value: if_some(old, 5),
-            other: if_some(new, 6),
+            value: old.and(Some(5)),
+            other: new.and(Some(6)),
             ..keyed
         },
     }
@@ -76,7 +64,7 @@ fn response_places(response: Result<Option<Lent>, Error>) -> Places
 {
     match response {
         Ok(o) => Places {
-            value: if_some(o, 4),
+            value: o.and(Some(4)),
             ..Places::NONE
         },
         Err(e) => Places {
@@ -106,13 +94,13 @@ pub fn places_of(rpc: Rpc) -> Places
             res,
             ..
         } => Places {
-            value: if_some(last_accepted_value, 4),
+            value: last_accepted_value.and(Some(4)),
             other: res_place(res, 7),
             ..Places::NONE
         },
         Rpc::AcceptReq(_, o) => Places {
             key: Some(3),
-            value: if_some(o, 4),
+            value: o.and(Some(4)),
             ..Places::NONE
         },
         Rpc::AcceptRes(_, res) => Places {

@@ -7,7 +7,7 @@ mod run;
 mod show;
 mod start;
 
-ghost use Rattle.std.specs.Prelude.{◌≡◌, [], replicate};
+ghost use Rattle.std.specs.Prelude.{◌≡◌, false, [], replicate};
 ghost use Rattle.script_run.specs.Run.{fresh};
 ghost use Rattle.script_run.specs.State.{state};
 ghost use Rattle.script_run.specs.Obeyed.{after, lacks_party, taken_in, obeyed};
@@ -15,7 +15,7 @@ ghost use Rattle.script_run.specs.Obeyed.{after, lacks_party, taken_in, obeyed};
 use messages::Incoming;
 use run::Run;
 use script::Step;
-use script_words::Output;
+use script_words::{BYTES_MOST, LIST_ROOM, Output};
 use std::marker::Model;
 
 // The longest line that is read.
@@ -42,19 +42,19 @@ impl<const TABLE: usize, const AREA: usize, const OUT: usize> Model for Bench<TA
     ghost invariant = { λ b. (b.run.bytes ≤ TABLE) × (b.run.reach ≤ TABLE) × (b.run.area ≤ AREA) };
 }
 
-// Whether a step is one on a party and there is none yet.
-fn lacks_party(step: Step, started: bool) -> bool
-    ensures { result ≡ lacks_party step started }
+// Whether a step is one on a party.
+fn needs_party(step: Step) -> bool
+    ensures { result ≡ lacks_party step false }
 {
-    match step {
+    matches!(
+        step,
         Step::Lend { .. }
-        | Step::Poke(_)
-        | Step::Table
-        | Step::Area
-        | Step::Tick(_)
-        | Step::Message(..) => !started,
-        _ => false,
-    }
+            | Step::Poke(_)
+            | Step::Table
+            | Step::Area
+            | Step::Tick(_)
+            | Step::Message(..)
+    )
 }
 
 impl<const TABLE: usize, const AREA: usize, const OUT: usize> Bench<TABLE, AREA, OUT> {
@@ -94,7 +94,7 @@ impl<const TABLE: usize, const AREA: usize, const OUT: usize> Bench<TABLE, AREA,
     fn take(&mut self, step: Step, line: u64, key: &[u8], value: &[u8], other: &[u8], list: &[u16])
         ensures { self.new ≡ after OUT self.old (taken_in self.old.run self.old.table self.old.area line step key.now value.now other.now list.now) }
     {
-        if lacks_party(step, self.run.party.is_some()) {
+        if self.run.party.is_none() && needs_party(step) {
             return self.stop(line, b": no party yet\n");
         }
         match step {
@@ -132,9 +132,9 @@ impl<const TABLE: usize, const AREA: usize, const OUT: usize> Bench<TABLE, AREA,
         if LINE_MOST < text.len() {
             return self.unreadable(line);
         }
-        // room for three words of the most bytes that one can give, and for the longest list
-        let mut bytes = [0; 1800];
-        let mut list = [0; 32];
+        // fixed memory: room for three words of the most bytes that one can give, and for the longest list
+        let mut bytes = [0; 3 * BYTES_MOST];
+        let mut list = [0; LIST_ROOM];
         let read = script::read(text, &mut bytes, &mut list);
         self.take(
             read.step,

@@ -28,7 +28,8 @@ fn receive(
 }
 
 impl<const TABLE: usize, const AREA: usize, const OUT: usize> Bench<TABLE, AREA, OUT> {
-    // `FROM MESSAGE`.
+    // `FROM MESSAGE`. What is lent is written `0..n` here and below: tried with `..n`, `returns` stays open, since what comes back of it is not
+    // known.
     pub(crate) fn send(&mut self, from: Address, message: Incoming)
         ensures { self.new ≡ after OUT self.old (message_in self.old.run self.old.table self.old.area from (arrived message.entry)) }
     {

@@ -9,7 +9,8 @@ pub enum Party {
 }
 
 // Which party there is, the time that messages carry, what is lent to the party (its capacity is the registers of an acceptor's table or
-// the places of a proposer's area), how far the table may hold anything but zeros, and whether the run is over.
+// the places of a proposer's area), how far the table may hold anything but zeros, and whether the run is over: a bit with nothing beside
+// it, so no enum.
 #[derive(Clone, Copy)]
 pub struct Run {
     pub party: Option<Party>,

@@ -9,10 +9,6 @@ unfoldable pub up_to : ℕ → List ℕ → ℕ
 up_to b [] = 0
 up_to b (x ∷ l) = cond (eqb x b) 0 (suc (up_to b l))
 
--- what stands before the first space
-abbrev pub first_word : List ℕ → List ℕ
-first_word l = take (up_to 32 l) l
-
 -- `0` to `9`
 abbrev pub is_digit : ℕ → Bool
 is_digit b = leb 48 b && leb b 57

@@ -1,17 +1,33 @@
 -- The laws of what is put out: two texts behind each other are one, no text changes nothing, and what is left to put in a loop. Nothing is stored past a lent buffer's end.
 -- Assumes nothing.
-use Rattle.std.specs.Prelude.{◌≡◌, refl, Bool, true, false, List, [], ◌∷◌, ◌++◌, ℕ, zero, suc, ◌+◌, ◌-◌, ◌≤◌, ◌<◌, min, ltb, length, take, set}
+use Rattle.std.specs.Prelude.{◌≡◌, refl, Bool, true, false, List, [], ◌∷◌, ◌++◌, ℕ, zero, suc, ◌+◌, ◌-◌, ◌≤◌, ◌<◌, min, ltb, length, take, drop, set}
 use Rattle.std.proofs.Common.{ap, sym, ◌∙◌, arith, append_assoc, add-one, length-append, length-set, length-take-le, ltb-true, ltb-false}
 use Rattle.std.proofs.lemmas.List.Edits.{sets}
-use Rattle.std.proofs.lemmas.List.{append-nil, take_more_set}
+use Rattle.std.proofs.lemmas.List.{append-nil, take_more_set, length-take, take-append-drop}
 use Rattle.std.proofs.Math.Nat.{sub-zero}
-use Rattle.std.proofs.Math.Seq.{set_out}
+use Rattle.std.proofs.Math.Seq.{set_out, take-length, length-sets}
+use Rattle.leaf_fields.specs.Stores.{sets_join}
 use Rattle.script_words.specs.Written.{put, written, behind}
 
 -- nothing is stored past the end
 pub sets_past : (l vs : List ℕ) (i : ℕ) → length l ≤ i → sets l i vs ≡ l
 sets_past l [] i h = refl
 sets_past l (a ∷ vs) i h = rw (set_out l i a h) (sets_past l vs (suc i) (omega arith))
+
+-- as many bytes as fit are all that can be stored
+pub cut : (out vs : List ℕ) (at n : ℕ) → at ≤ length out → n ≡ min (length vs) (length out - at) → sets out at (take n vs) ≡ sets out at vs
+cut out vs at n h e = go (ltb (length vs) (length out - at)) refl
+  where
+    go : (t : Bool) → ltb (length vs) (length out - at) ≡ t → sets out at (take n vs) ≡ sets out at vs
+    go true k =
+        let l : n ≡ length vs = omega (arith, ltb-true _ _ k) in
+        rw (l, take-length vs) refl
+    go false k =
+        let m : at + length (take n vs) ≡ at + n = omega (arith, length-take n vs, ltb-false _ _ k) in
+        let past : length (sets out at (take n vs)) ≤ at + n = omega (arith, length-sets out at (take n vs), ltb-false _ _ k) in
+        sym (sets_past (sets out at (take n vs)) (drop n vs) (at + n) past)
+        ∙ sets_join out (take n vs) (drop n vs) at (at + n) m
+        ∙ ap (sets out at) (take-append-drop n vs)
 
 -- what fits of a text, and of another in the room that it leaves, is what fits of both
 taken : (m : ℕ) (s t : List ℕ) → take m s ++ take (m - length (take m s)) t ≡ take m (s ++ t)
@@ -36,10 +52,6 @@ joined n out s t =
     let m : ℕ = n - length out in
     let e : n - length (out ++ take m s) ≡ m - length (take m s) = rw (length-append out (take m s)) (omega arith) in
     rw e (append_assoc out (take m s) (take (m - length (take m s)) t) ∙ ap (λ (l : List ℕ). out ++ l) (taken m s t))
-
--- the same of a text that the two are
-pub both : (n : ℕ) (out s t u mid after : List ℕ) → mid ≡ put n out s → after ≡ put n mid t → u ≡ s ++ t → after ≡ put n out u
-both n out s t u mid after e f g = rw (f, e, g) (joined n out s t)
 
 -- ---- in a loop, where what is left to put gives the whole
 

@@ -11,5 +11,5 @@ mod words;
 pub use bytes::{BYTES_MOST, is_bytes, unhex};
 pub use list::{LIST_ROOM, is_list, read_list};
 pub use number::{read_address, read_number};
-pub use put::Output;
+pub use put::{Output, put_byte, put_hex, put_number, put_text};
 pub use words::{WORDS_MOST, Words, place_of, split};

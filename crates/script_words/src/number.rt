@@ -4,7 +4,8 @@ ghost use Rattle.script_words.specs.Text.{number_of, address_of};
 
 use messages::Address;
 
-// The number that a word is: one digit or more, and below 2^64.
+// The number that a word is: one digit or more, and below 2^64. A digit a turn: `str::parse` takes a `&str` and a leading `+`, and a script's
+// word is bytes, in which `+` is no digit (docs/SCRIPT.md).
 pub fn read_number(word: &[u8]) -> Option<u64>
     ensures { result ≡ number_of word.now }
 {
@@ -13,10 +14,8 @@ pub fn read_number(word: &[u8]) -> Option<u64>
     }
     let mut x: u64 = 0;
     for b in word {
-        if !b.is_ascii_digit() {
-            return None;
-        }
-        x = x.checked_mul(10)?.checked_add(u64::from(*b - b'0'))?;
+        let digit = char::from(*b).to_digit(10)?;
+        x = x.checked_mul(10)?.checked_add(u64::from(digit))?;
     }
     Some(x)
 }

@@ -1,10 +1,65 @@
-// What a run puts out, collected: text, numbers and bytes, one behind the other. What doesn't fit is left out.
+// Text, numbers and bytes, put one behind the other into a lent buffer, or into an `Output`, which has its buffer. What doesn't fit is left
+// out.
+#![tactic(auto, using(crate::specs::LentLaws::put_in))]
+
 ghost use Rattle.std.specs.Prelude.{◌≡◌, [], ◌∷◌, ◌-◌, length};
 ghost use Rattle.script_words.specs.Written.{put, hex_digit, hex_of, decimal};
+ghost use Rattle.script_words.specs.LentLaws.{Put};
 
 use std::marker::Model;
 
-// At most `N` bytes that are put out.
+// Put into a lent buffer from a place on; the place behind, which stays within the buffer. So the next three.
+pub fn put_text(out: &mut [u8], at: usize, text: &[u8]) -> usize
+    ensures { Put out.old at text.now result out.new }
+{
+    let at = at.min(out.len());
+    let n = text.len().min(out.len() - at);
+    leaf_fields::copy(out, at, &text[..n]);
+    at + n
+}
+
+pub fn put_byte(out: &mut [u8], at: usize, b: u8) -> usize
+    ensures { Put out.old at (b ∷ []) result out.new }
+{
+    put_text(out, at, &[b])
+}
+
+// In decimal, with no zeros in front. No `write!` of `{n}`: it needs a writer, and a lent buffer with a place would have to become one, with
+// an `impl`, for these lines.
+pub fn put_number(out: &mut [u8], at: usize, n: u64) -> usize
+    ensures { Put out.old at (decimal n) result out.new }
+{
+    let last = if 10 <= n {
+        put_number(out, at, n / 10)
+    } else {
+        at
+    };
+    put_byte(out, last, b'0' + (n % 10) as u8)
+}
+
+// Two hex digits for each byte.
+pub fn put_hex(out: &mut [u8], at: usize, bytes: &[u8]) -> usize
+    ensures { Put out.old at (hex_of bytes.now) result out.new }
+{
+    let mut end = at;
+    for b in bytes {
+        end = put_text(out, end, &[hex_digit(b / 16), hex_digit(b % 16)]);
+    }
+    end.min(out.len())
+}
+
+// No `char::from_digit`, whose answer is an Option of a char, and would have to be made a byte again.
+fn hex_digit(n: u8) -> u8
+    ensures { result ≡ hex_digit n }
+{
+    match n {
+        0..=9 => b'0' + n,
+        10..=15 => b'a' - 10 + n,
+        _ => b'?',
+    }
+}
+
+// At most `N` bytes that are put out: fixed memory, so an array with a count.
 #[derive(Drop)]
 pub struct Output<const N: usize> {
     bytes: [u8; N],
@@ -54,45 +109,26 @@ impl<const N: usize> Output<N> {
     pub fn put_text(&mut self, text: &[u8])
         ensures { self.new ≡ put N self.old text.now }
     {
-        let n = text.len().min(self.room());
-        let bytes = &mut self.bytes[..];
-        bytes[self.len..self.len + n].copy_from_slice(&text[..n]);
-        self.len += n;
+        self.len = put_text(&mut self.bytes, self.len, text);
     }
 
     pub fn put_byte(&mut self, b: u8)
         ensures { self.new ≡ put N self.old (b ∷ []) }
     {
-        self.put_text(&[b]);
+        self.len = put_byte(&mut self.bytes, self.len, b);
     }
 
     // In decimal, with no zeros in front.
     pub fn put_number(&mut self, n: u64)
         ensures { self.new ≡ put N self.old (decimal n) }
     {
-        if 10 <= n {
-            self.put_number(n / 10);
-        }
-        self.put_byte(b'0' + (n % 10) as u8);
+        self.len = put_number(&mut self.bytes, self.len, n);
     }
 
     // Two hex digits for each byte.
     pub fn put_hex(&mut self, bytes: &[u8])
         ensures { self.new ≡ put N self.old (hex_of bytes.now) }
     {
-        for b in bytes {
-            self.put_byte(hex_digit(b / 16));
-            self.put_byte(hex_digit(b % 16));
-        }
-    }
-}
-
-fn hex_digit(n: u8) -> u8
-    ensures { result ≡ hex_digit n }
-{
-    match n {
-        0..=9 => b'0' + n,
-        10..=15 => b'a' - 10 + n,
-        _ => b'?',
+        self.len = put_hex(&mut self.bytes, self.len, bytes);
     }
 }

@@ -36,10 +36,8 @@ pub fn place_of(s: &[u8], from: usize, b: u8) -> usize
     requires { from ≤ length s.now }
     ensures { (result ≡ from + up_to b (drop from s.now)) × (from ≤ result) × (result ≤ length s.now) }
 {
-    match s[from..].iter().position(|x| *x == b) {
-        Some(i) => from + i,
-        None => s.len(),
-    }
+    let rest = &s[from..];
+    from + rest.iter().position(|x| *x == b).unwrap_or(rest.len())
 }
 
 // The words of a line. None where a word is empty, as in a line with two spaces in a row, or where there are more than eight.

@@ -3,40 +3,19 @@
 use Rattle.std.specs.Prelude.{◌≡◌, refl, Bool, true, false, not, ◌||◌, List, [], ◌∷◌, ℕ}
 use Rattle.std.proofs.Common.{sym, ◌∙◌}
 use Rattle.std.proofs.Math.Path.{ap}
-use Rattle.std.specs.Prelude.{Option, None, Some, Result, Ok, Err}
+use Rattle.std.specs.Prelude.{Option, None, Some, MatchOption, option_map, Result, Ok, Err}
+use denote.Ref.{Bor}
+use Rattle.messages.specs.declared.Ballot.{Ballot}
 use Rattle.messages.specs.declared.answer.Refusal.{Refusal}
 use Rattle.messages.specs.Message.{Key, Value}
 use Rattle.messages.specs.Limits.{key_fits, register_fits}
-use Rattle.messages.specs.Refusals.{Test, test, pick_first, first_due}
+use Rattle.messages.specs.Refusals.{test, pick_first, first_due}
 use Rattle.storage_block.specs.Block.{Register, fresh, readable, register_with, image}
 use Rattle.storage_search.specs.declared.Found.{Found}
 use Rattle.storage_search.specs.Table.{is_sized, none_bad, block_at, with_block, slots, where_is, is_twice, is_full, register_by, Lent}
 use Rattle.storage_search.specs.Keys.{place_known, readable_in, register_known, register_new}
 use Rattle.storage.specs.declared.Change.{Change}
-use Rattle.storage.specs.Operations.{refused_or, table_answer, key_tests, block_by_place, register_on, changed, disordered, register_tests, block_by, next_on, set_tests, placed_at, KeySet, BlockSet, or_no_room, full_by}
-
--- ---- what the two tests of a table have shown
-
-abbrev tested : Bool → Bool → Result (Unit {0}) Refusal
-tested s b = refused_or (first_due (test (not s) Refusal.AreaSize ∷ test (not b) Refusal.Damaged ∷ [])) tt
-
-tested_sized : (s b : Bool) → Ok tt ≡ tested s b → s ≡ true
-tested_sized false b e = cc
-tested_sized true b e = refl
-
-tested_sound : (s b : Bool) → Ok tt ≡ tested s b → b ≡ true
-tested_sound false b e = cc
-tested_sound true false e = cc
-tested_sound true true e = refl
-
-pub lent_by : (t : List ℕ) (n : ℕ) → Ok tt ≡ table_answer t n → Lent t n
-lent_by t n e = record { sized = tested_sized (is_sized t n) (none_bad (slots t n)) e; sound = tested_sound (is_sized t n) (none_bad (slots t n)) e }
-
--- what they refuse is refused first
-refused_first : (s b w v : Bool) (l : List Test) (x : Refusal) → Err x ≡ tested s b → first_due (test (not s) Refusal.AreaSize ∷ test (not b || w || v) Refusal.Damaged ∷ l) ≡ Some x
-refused_first false b w v l x e = cc
-refused_first true false w v l x e = cc
-refused_first true true w v l x e = cc
+use Rattle.storage.specs.Operations.{refused_or, key_tests, block_by_place, register_on, changed, disordered, register_tests, block_by, next_on, set_tests, placed_at, KeySet, BlockSet, or_no_room, full_by}
 
 -- ---- the register of a key, by where it is
 
@@ -96,6 +75,15 @@ module _ (t : List ℕ) (n : ℕ) (k : Key) (due : first_due (key_tests t n k) �
       by Found.Full h e' = cc
       by Found.Twice h e' = cc
 
+-- a ballot of that register
+module _ (f : Register → Ballot) (k : Key) where
+  of_block : (o : Option (Bor (List ℕ))) (r : Ballot) → MatchOption o (r ≡ f (fresh k)) (λ b. r ≡ f (register_with k b.now)) → r ≡ f (register_from k (option_map (λ b. b.now) o))
+  of_block None r e = e
+  of_block (Some b) r e = e
+
+  pub ballot_got : (t : List ℕ) (n : ℕ) (o : Option (Bor (List ℕ))) (r : Ballot) → first_due (key_tests t n k) ≡ None → option_map (λ b. b.now) o ≡ block_by_place t (where_is k (slots t n)) → MatchOption o (r ≡ f (fresh k)) (λ b. r ≡ f (register_with k b.now)) → Ok r ≡ refused_or (first_due (key_tests t n k)) (f (register_on t n k))
+  ballot_got t n o r due e m = rw (due, register_got t n k due, ← e, ← of_block o r m)
+
 -- ---- a set, by where the key is
 
 module _ (t : List ℕ) (n : ℕ) (k : Key) (c : Change) (v : Value) where
@@ -106,9 +94,6 @@ module _ (t : List ℕ) (n : ℕ) (k : Key) (c : Change) (v : Value) where
   -- a refusal leaves every byte
   pub set_refused : (x : Refusal) → first_due (set_tests t n k c v) ≡ Some x → KeySet t n k c v (Err x) t
   set_refused x e = key_set (Some x) (where_is k (slots t n)) (next_on t n k c v) (Err x) t e refl refl refl refl
-
-  pub set_unsound : (x : Refusal) → Err x ≡ table_answer t n → KeySet t n k c v (Err x) t
-  set_unsound x e = set_refused x (refused_first (is_sized t n) (none_bad (slots t n)) _ _ (test (not (register_fits k (next_on t n k c v).value)) Refusal.OverLimit ∷ test (is_full (where_is k (slots t n))) Refusal.NoRoom ∷ []) x e)
 
   next-key : (r : Register) → (changed c v r).key ≡ r.key
   next-key r = go c

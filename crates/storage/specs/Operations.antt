@@ -23,16 +23,6 @@ refused_or None a = Ok a
 
 -- ---- the three gets
 
--- refusals 1 and 2 for a table, in rank order
-abbrev pub table_tests : List ℕ → ℕ → List Test
-table_tests t n =
-    test (not (is_sized t n)) Refusal.AreaSize
-    ∷ test (not (none_bad (slots t n))) Refusal.Damaged
-    ∷ []
-
-abbrev pub table_answer : List ℕ → ℕ → Result (Unit {0}) Refusal
-table_answer t n = refused_or (first_due (table_tests t n)) tt
-
 -- refusals 1, 2 and 4 for a key, in rank order
 abbrev pub key_tests : List ℕ → ℕ → Key → List Test
 key_tests t n k =

@@ -6,7 +6,7 @@ ghost use Rattle.std.specs.Prelude.{◌≡◌, true, [], ◌+◌, ◌*◌, ◌�
 ghost use Rattle.messages.specs.Message.{given};
 ghost use Rattle.storage_block.specs.Block.{block_bytes, readable, register_with, register, fresh};
 ghost use Rattle.storage_search.specs.Table.{block_at};
-ghost use Rattle.storage.specs.Operations.{table_answer, BlockOf, highest_seen, accepted_ballot, ValueGot, changed, RegisterSet, BlockSet, full_by, KeySet};
+ghost use Rattle.storage.specs.Operations.{BlockOf, highest_seen, accepted_ballot, ValueGot, changed, RegisterSet, BlockSet, full_by, KeySet};
 
 use messages::{Ballot, KEY_MOST, Lent, Refusal, VALUE_MOST};
 use storage_block::BLOCK;
@@ -24,19 +24,6 @@ pub enum Change {
 // The area that a value is handed back in.
 pub const VALUE_AREA: usize = VALUE_MOST;
 
-// A table that may be searched, or refusal 1 or 2.
-fn sound(table: &[u8], registers: usize) -> Result<(), Refusal>
-    ensures { result ≡ table_answer table.now registers }
-{
-    if !storage_search::is_sized(table, registers) {
-        return Err(Refusal::AreaSize);
-    }
-    if !storage_search::is_sound(table, registers) {
-        return Err(Refusal::Damaged);
-    }
-    Ok(())
-}
-
 // The key's block, if it has one, or refusal 1, 2 or 4.
 fn block_of<'a>(
     table: &'a [u8],
@@ -45,16 +32,18 @@ fn block_of<'a>(
 ) -> Result<Option<&'a [u8; BLOCK]>, Refusal>
     ensures { BlockOf table.now registers key.now result }
 {
-    sound(table, registers)?;
-    match storage_search::locate(table, registers, key) {
+    let blocks = storage_search::sound(table, registers)?;
+    match storage_search::locate(blocks, key) {
         Found::Twice => Err(Refusal::Damaged),
         _ if KEY_MOST < key.len() => Err(Refusal::OverLimit),
-        Found::At(i) => Ok(Some(&storage_search::blocks(table, registers)[i])),
+        Found::At(i) => Ok(Some(&blocks[i])),
         Found::Free(_) | Found::Full => Ok(None),
     }
 }
 
-// This and the next are two of 01's six operations, by its names; each is one line over `block_of`.
+// Each operation is lent a table and its registers side by side and refuses them (01, refusal 1), as those of the C interface do; what is
+// behind that test has the blocks. This and the next are two of 01's six operations, by its names; each is one line over `block_of`.
+#[tactic(auto, unfolding(crate::specs::Operations::highest_seen))]
 pub fn get_highest_seen(table: &[u8], registers: usize, key: &[u8]) -> Result<Ballot, Refusal>
     ensures { result ≡ highest_seen table.now registers key.now }
 {
@@ -62,6 +51,7 @@ pub fn get_highest_seen(table: &[u8], registers: usize, key: &[u8]) -> Result<Ba
     Ok(block.map_or(Ballot(0), storage_block::highest_seen))
 }
 
+#[tactic(auto, unfolding(crate::specs::Operations::accepted_ballot))]
 pub fn get_accepted_ballot(table: &[u8], registers: usize, key: &[u8]) -> Result<Ballot, Refusal>
     ensures { result ≡ accepted_ballot table.now registers key.now }
 {
@@ -84,11 +74,8 @@ pub fn get_accepted_value(
     let Some(b) = block_of(table, registers, key)? else {
         return Ok(None);
     };
-    let len = storage_block::copy_value(b, area);
-    match storage_block::value_mark(b) {
-        None => Ok(None),
-        Some(_) => Ok(Some(len)),
-    }
+    // `and_then` was tried: after it no byte is known of the area that its closure borrows, and `returns` stayed open
+    Ok(storage_block::copy_value(b, area))
 }
 
 // A register's block, if the register is within 01's limits and its accepted ballot is not above highest seen.
@@ -105,23 +92,21 @@ fn write_register(b: &mut [u8; BLOCK], r: Register) -> Result<(), Refusal>
     Ok(())
 }
 
-// A change of the register in a block that holds the key or is free. The array is made here and not in `set_at`: what `as_mut_array`
-// leaves is known to a proof only where the whole slice is a parameter.
-fn set_in(b: &mut [u8], key: &[u8], change: Change, bytes: &[u8]) -> Result<(), Refusal>
-    requires { (length b.old ≡ block_bytes) × (readable b.old ≡ true) }
+// A change of the register in a block that holds the key or is free. The register that is there is made here and in acceptor_work's
+// `propose_in`. Tried: one function that copies the value into a lent area and answers with the register over it; what it leaves in the
+// area stayed open, since such a clause is proved only of a body that hands on a field or a call's result.
+fn set_in(b: &mut [u8; BLOCK], key: &[u8], change: Change, bytes: &[u8]) -> Result<(), Refusal>
+    requires { readable b.old ≡ true }
     ensures { RegisterSet (changed change bytes.now (register_with key.now b.old)) b.old result b.new }
 {
-    let Some(b) = b.as_mut_array() else {
-        unreachable!()
-    };
     let mut area = [0; VALUE_AREA];
     let len = storage_block::copy_value(b, &mut area);
     let r = Register {
         key,
         seen: storage_block::highest_seen(b),
         accepted: storage_block::accepted_ballot(b),
-        value: storage_block::value_mark(b),
-        bytes: &area[..len],
+        value: len.and(Some(Lent)),
+        bytes: &area[..len.unwrap_or(0)],
     };
     match change {
         Change::HighestSeen(seen) => write_register(b, Register { seen, ..r }),
@@ -130,7 +115,9 @@ fn set_in(b: &mut [u8], key: &[u8], change: Change, bytes: &[u8]) -> Result<(), 
     }
 }
 
-// The same on block i of the table: that block alone is lent on.
+// The same on block i of the table: that block alone is lent on. The acceptor lends it on in the same lines, twice. Tried for the three:
+// `as_chunks_mut`, of which no clause says what the table ends as; a function that hands the block out, whose clause on the table stayed
+// open, as above; and one that takes a closure, after which nothing is known of the answer area that the closure borrows.
 fn set_at(
     table: &mut [u8],
     i: usize,
@@ -141,17 +128,18 @@ fn set_at(
     requires { (i * block_bytes + block_bytes ≤ length table.old) × (readable (block_at table.old i) ≡ true) }
     ensures { BlockSet (changed change bytes.now (register_with key.now (block_at table.old i))) table.old i result table.new }
 {
-    let a = i * BLOCK;
-    set_in(&mut table[a..a + BLOCK], key, change, bytes)
+    let (_, rest) = table.split_at_mut(i * BLOCK);
+    let Some(b) = rest.first_chunk_mut() else {
+        unreachable!()
+    };
+    set_in(b, key, change, bytes)
 }
 
 // A change for a key that no block takes: what would refuse it on a spare free block refuses it first.
 fn set_full(key: &[u8], change: Change, bytes: &[u8]) -> Result<(), Refusal>
     ensures { result ≡ full_by (changed change bytes.now (fresh key.now)) }
 {
-    let mut spare = [0; BLOCK];
-    set_in(&mut spare, key, change, bytes)?;
-    Err(Refusal::NoRoom)
+    set_in(&mut [0; BLOCK], key, change, bytes).and(Err(Refusal::NoRoom))
 }
 
 // A change of a key's register.
@@ -164,8 +152,8 @@ fn set(
 ) -> Result<(), Refusal>
     ensures { KeySet table.old registers key.now change bytes.now result table.new }
 {
-    sound(table, registers)?;
-    match storage_search::locate(table, registers, key) {
+    let blocks = storage_search::sound(table, registers)?;
+    match storage_search::locate(blocks, key) {
         Found::At(i) | Found::Free(i) => set_at(table, i, key, change, bytes),
         Found::Full => set_full(key, change, bytes),
         Found::Twice => Err(Refusal::Damaged),

@@ -5,7 +5,7 @@ use Rattle.std.specs.Prelude.{Option, None, Some}
 use Rattle.leaf_fields.specs.Fields.{from_le, to_le, part, span, byte, all_zero, Bytes, padded}
 use Rattle.leaf_sums.specs.Sums.{plain_sum, placed_sum}
 use Rattle.messages.specs.Ballots.{ballot0, above}
-use Rattle.messages.specs.Message.{Key, Value}
+use Rattle.messages.specs.Message.{Key, Value, mark}
 use Rattle.messages.specs.Limits.{key_most, value_most}
 use Rattle.messages.specs.Answers.{marked, bytes_of}
 use Rattle.messages.specs.declared.Ballot.{Ballot}
@@ -109,8 +109,7 @@ register_with k b = register k (register_of b).seen (register_of b).accepted (re
 -- ---- writing a block
 
 abbrev pub mark_byte : Option Lent → ℕ
-mark_byte None = 0
-mark_byte (Some mark) = 1
+mark_byte o = mark o
 
 -- bytes 0 to 23: the lengths, the mark and the ballots
 unfoldable pub front : ℕ → Ballot → Ballot → Option Lent → ℕ → List ℕ

@@ -48,6 +48,13 @@ head_of_lem b h =
       ordered = not-true order toOrder.1;
     }
 
+-- the key and the value end in their rooms
+pub key_room : (b : List ℕ) → head_good b ≡ true → 24 + byte b 1 ≤ 88
+key_room b h = omega (arith, head_of_lem b h)
+
+pub head_room : (b : List ℕ) (n : ℕ) → n ≡ from_le (part b 4 2) → head_good b ≡ true → 88 + n ≤ 504
+head_room b n e h = omega (arith, head_of_lem b h)
+
 -- the bytes of the register's value, also where there is none
 pub bytes_of-value : (b : List ℕ) → head_good b ≡ true → bytes_of (register_of b).value ≡ part b 88 (value_length b)
 unfolding register_of
@@ -221,7 +228,10 @@ read_value b l h = go (all_zero b) refl h
         let h' = (good_of b g).head_good_lem in
         record { short = (head_of_lem b h').value_short; bytes = bytes_of-value b h' }
 
--- so its value is within the limits
+-- so its value ends in the block, and is within the limits
+pub value_room : (b : List ℕ) (n : ℕ) → length b ≡ block_bytes → readable b ≡ true → n ≡ from_le (part b 4 2) → 88 + n ≤ 512
+value_room b n l h e = omega (arith, (read_value b l h).short)
+
 pub value_fits_lem : (b : List ℕ) → length b ≡ block_bytes → readable b ≡ true → length (bytes_of (register_of b).value) ≤ value_most
 value_fits_lem b l h =
     let v = read_value b l h in

@@ -1,9 +1,9 @@
 // One register as a block of 512 bytes: what a block is and what it holds. specs/Block.antt has 01's section line by line.
 #![tactic(auto)]
 
-ghost use Rattle.std.specs.Prelude.{◌≡◌, true, length};
+ghost use Rattle.std.specs.Prelude.{◌≡◌, true, length, option_map};
 ghost use Rattle.std.proofs.lemmas.List.Edits.{sets};
-ghost use Rattle.messages.specs.Answers.{marked, bytes_of};
+ghost use Rattle.messages.specs.Answers.{bytes_of};
 ghost use Rattle.storage_block.specs.Block.{
   head_good,
   rest_zero,
@@ -13,10 +13,11 @@ ghost use Rattle.storage_block.specs.Block.{
   register_of,
 };
 
-use messages::{Ballot, KEY_MOST, Lent, VALUE_MOST};
+use messages::{Ballot, KEY_MOST, VALUE_MOST};
 
 pub const BLOCK: usize = 512;
 
+// Three states, none of which is a value or an error: no shape of an Option or a Result.
 #[derive(Clone, Copy, PartialEq, Eq)]
 pub enum BlockState {
     Free,
@@ -24,6 +25,7 @@ pub enum BlockState {
     Bad,
 }
 
+#[tactic(auto, unfolding(crate::specs::Block::head_good, crate::specs::Block::register_of))]
 fn head_good(b: &[u8; BLOCK]) -> bool
     ensures { result ≡ head_good b.now }
 {
@@ -34,6 +36,7 @@ fn head_good(b: &[u8; BLOCK]) -> bool
         && !accepted_ballot(b).above(highest_seen(b))
 }
 
+#[tactic(auto, using(crate::specs::Read::key_room), unfolding(crate::specs::Block::rest_zero))]
 fn rest_zero(b: &[u8; BLOCK]) -> bool
     requires { head_good b.now ≡ true }
     ensures { result ≡ rest_zero b.now }
@@ -46,6 +49,7 @@ fn rest_zero(b: &[u8; BLOCK]) -> bool
         && leaf_fields::zeros(&b[value_end..504])
 }
 
+#[tactic(auto, unfolding(crate::specs::Block::sums_good))]
 fn sums_good(b: &[u8; BLOCK]) -> bool
     ensures { result ≡ sums_good b.now }
 {
@@ -55,6 +59,7 @@ fn sums_good(b: &[u8; BLOCK]) -> bool
 }
 
 // Whether a block is free, good, or neither.
+#[tactic(auto, unfolding(crate::specs::Block::state_of, crate::specs::Block::good))]
 pub fn state(b: &[u8; BLOCK]) -> BlockState
     ensures { result ≡ state_of b.now }
 {
@@ -67,40 +72,40 @@ pub fn state(b: &[u8; BLOCK]) -> BlockState
     }
 }
 
+#[tactic(auto, unfolding(crate::specs::Block::register_of))]
 pub fn highest_seen(b: &[u8; BLOCK]) -> Ballot
     ensures { result ≡ (register_of b.now).seen }
 {
     Ballot(leaf_fields::read(b, 8))
 }
 
+#[tactic(auto, unfolding(crate::specs::Block::register_of))]
 pub fn accepted_ballot(b: &[u8; BLOCK]) -> Ballot
     ensures { result ≡ (register_of b.now).accepted }
 {
     Ballot(leaf_fields::read(b, 16))
 }
 
-// Whether a value is present.
-pub fn value_mark(b: &[u8; BLOCK]) -> Option<Lent>
-    ensures { result ≡ marked (register_of b.now).value }
-{
-    (b[2] != 0).then_some(Lent)
-}
-
-// The value's bytes, as a part of the block; none for no value.
-pub fn value_bytes(b: &[u8; BLOCK]) -> &[u8]
+// The value's bytes, as a part of the block, if there is a value.
+#[tactic(auto, unfolding(crate::specs::Block::register_of))]
+fn value(b: &[u8; BLOCK]) -> Option<&[u8]>
     requires { readable b.now ≡ true }
-    ensures { result.now ≡ bytes_of (register_of b.now).value }
+    ensures { option_map (λ v. v.now) result ≡ (register_of b.now).value }
 {
+    if b[2] == 0 {
+        return None;
+    }
     let end = 88 + leaf_fields::read::<u16>(b, 4) as usize;
-    &b[88..end]
+    Some(&b[88..end])
 }
 
-// The value's bytes, copied to the front of an area of 256 bytes; their length.
-pub fn copy_value(b: &[u8; BLOCK], area: &mut [u8; VALUE_MOST]) -> usize
+// The value's bytes, copied to the front of an area of 256 bytes; their length, if there is a value.
+pub fn copy_value(b: &[u8; BLOCK], area: &mut [u8; VALUE_MOST]) -> Option<usize>
     requires { readable b.now ≡ true }
-    ensures { (result ≡ length (bytes_of (register_of b.now).value)) × (area.new ≡ sets area.old 0 (bytes_of (register_of b.now).value)) }
+    ensures len { result ≡ option_map length (register_of b.now).value }
+    ensures copied { area.new ≡ sets area.old 0 (bytes_of (register_of b.now).value) }
 {
-    let value = value_bytes(b);
+    let value = value(b)?;
     leaf_fields::copy(area, 0, value);
-    value.len()
+    Some(value.len())
 }

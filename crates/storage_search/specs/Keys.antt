@@ -1,7 +1,7 @@
 -- The block of a key in a table that may be searched: where it is, that it may be read, and the register that it holds or, free, stands for.
 -- Assumes nothing.
-use Rattle.std.specs.Prelude.{◌≡◌, refl, Bool, true, false, cond, ◌||◌, List, ℕ, ◌+◌, ◌*◌, ◌≤◌, ◌<◌, length, get_or}
-use Rattle.std.proofs.Common.{sym, ◌∙◌, arith}
+use Rattle.std.specs.Prelude.{◌≡◌, refl, Bool, true, false, cond, ◌||◌, List, ℕ, ◌+◌, ◌*◌, ◌≤◌, ◌<◌, length, get_or, map}
+use Rattle.std.proofs.Common.{sym, ap, ◌∙◌, arith}
 use Rattle.std.proofs.lemmas.Bool.{false≢true}
 use Rattle.leaf_fields.specs.Fields.{all_zero}
 use Rattle.messages.specs.Message.{Key}
@@ -9,7 +9,7 @@ use Rattle.storage_block.specs.declared.BlockState.{BlockState}
 use Rattle.storage_block.specs.Block.{free, used, Register, fresh, readable, register_of, register_with, good, state_of, slot_by, slot_of}
 use Rattle.storage_block.specs.Read.{free_register}
 use Rattle.storage_search.specs.declared.Found.{Found}
-use Rattle.storage_search.specs.Table.{is_bad, block_at, slots, where_is, register_in, Lent}
+use Rattle.storage_search.specs.Table.{is_bad, block_at, slots, where_is, register_in, Lent, LentAs}
 use Rattle.storage_search.specs.Blocks.{sized_of, room_for, length_block}
 use Rattle.storage_search.specs.Laws.{length-slots, slot_at, sound_at, where_at, where_free, held_at}
 
@@ -43,6 +43,10 @@ free_zeros b h = go (all_zero b) (good b) h
     go false false e = cc
 
 -- ---- the block of a key
+
+-- where it is among a table's blocks
+pub found_as : (t : List ℕ) (n : ℕ) (l : List (List ℕ)) → LentAs t n l → (k : Key) (f : Found) → f ≡ where_is k (map slot_of l) → where_is k (slots t n) ≡ f
+found_as t n l h k f e = sym (e ∙ ap (where_is k) h.values)
 
 module _ (t : List ℕ) (n : ℕ) (k : Key) (i : ℕ) (lent : Lent t n) where
   pub place_known : where_is k (slots t n) ≡ Found.At i → i < n

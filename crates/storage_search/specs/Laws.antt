@@ -1,8 +1,8 @@
 -- The laws of a table's slots: each is its block's, one block replaced is one slot set, what a search finds, what the bytes say of a slot, and one turn of a search.
 -- Assumes nothing.
 use Rattle.std.proofs.Math.Path.{◌≡◌, refl}
-use Rattle.std.proofs.Common.{sym, ap, ◌∙◌, add-zero, zero-add, add-one, eqb-true, length-set, length-drop, ext_get_or, get_or-set_same, get_or-set_other}
-use Rattle.std.specs.Prelude.{Bool, not, cond, ◌&&◌, List, [], ◌∷◌, eqb, get_or, take, drop, set}
+use Rattle.std.proofs.Common.{sym, ap, ◌∙◌, add-zero, zero-add, add-one, eqb-true, length-set, length-drop, ext_get_or, get_or-set_same, get_or-set_other, drop-cons}
+use Rattle.std.specs.Prelude.{Bool, not, cond, ◌&&◌, List, [], ◌∷◌, eqb, get_or, take, drop, set, map}
 use Rattle.std.proofs.Math.Bool.{true, false}
 use Rattle.std.proofs.lemmas.Bool.{false≢true, not-true}
 use Rattle.std.specs.Prelude.{Option, None, Some}
@@ -11,16 +11,16 @@ use Rattle.std.proofs.Math.Nat.{sub-zero}
 use native.Mathlib.Omega.{arith}
 use Rattle.std.proofs.Math.Decide.{ℕ_discrete}
 use Rattle.std.proofs.Math.Dec.{ltb, eqb-suc-suc, eqb-zero-suc, eqb-suc-zero}
-use Rattle.std.proofs.Math.ListN.{length}
+use Rattle.std.proofs.Math.ListN.{length, drop_of_length-le}
+use Rattle.std.proofs.lemmas.List.{length-map, get_or-map}
 use Rattle.leaf_fields.specs.Fields.{byte, all_zero, same}
 use Rattle.leaf_fields.specs.Laws.{and_true, same-true}
 use Rattle.messages.specs.Message.{Key}
-use Rattle.messages.specs.Limits.{key_most}
 use Rattle.storage_block.specs.Block.{Slot, free, used, bad, Register, block_bytes, key_length, register_of, good, state_of, slot_of}
 use Rattle.storage_block.specs.Read.{Good, good_of}
 use Rattle.storage_search.specs.declared.Found.{Found}
-use Rattle.storage_search.specs.Table.{block_at, with_block, blocks_from, blocks_of, slots_from, slots, is_bad, none_bad, holds, is_free, count, first_from, found_by, where_is, Lent}
-use Rattle.storage_search.specs.Blocks.{sized_of, room_for, length_block, byte_block, drop_block, block_same, block_other}
+use Rattle.storage_search.specs.Table.{block_at, with_block, blocks_from, blocks_of, slots_from, slots, is_bad, none_bad, holds, is_free, count, first_from, found_by, where_is, LentAs}
+use Rattle.storage_search.specs.Blocks.{room_for, block_same, block_other}
 
 -- ---- each slot is its block's
 
@@ -32,24 +32,6 @@ length_from t i (suc m) = ap suc (length_from t (suc i) m)
 pub length-slots : (t : List ℕ) (n : ℕ) → length (slots t n) ≡ n
 unfolding slots
 length-slots t n = length_from t 0 n
-
-from_at : (t : List ℕ) (i m j : ℕ) → j < m → get_or (slots_from t i m) j free ≡ slot_of (block_at t (i + j))
-unfolding slots_from
-from_at t i zero j h = absurd (omega arith)
-from_at t i (suc m) zero h = rw add-zero
-from_at t i (suc m) (suc j) h =
-    let e : suc i + j ≡ i + suc j = omega arith in
-    from_at t (suc i) m j (omega arith) ∙ ap (λ (k : ℕ). slot_of (block_at t k)) e
-
-pub slot_at : (t : List ℕ) (n i : ℕ) → i < n → get_or (slots t n) i free ≡ slot_of (block_at t i)
-unfolding slots
-slot_at t n i h = from_at t 0 n i h ∙ ap (λ (k : ℕ). slot_of (block_at t k)) (zero-add i)
-
-none_bad_at : (l : List Slot) (j : ℕ) → none_bad l ≡ true → j < length l → is_bad (get_or l j free) ≡ false
-unfolding none_bad
-none_bad_at [] j h lt = refl
-none_bad_at (s ∷ l) zero h lt = not-true (is_bad s) (and_true (not (is_bad s)) (none_bad l) h).0
-none_bad_at (s ∷ l) (suc j) h lt = none_bad_at l j (and_true (not (is_bad s)) (none_bad l) h).1 (omega arith)
 
 block_from : (t : List ℕ) (i m j : ℕ) → j < m → get_or (blocks_from t i m) j [] ≡ block_at t (i + j)
 unfolding blocks_from
@@ -63,7 +45,35 @@ pub block_in : (t : List ℕ) (n i : ℕ) → i < n → get_or (blocks_of t n) i
 unfolding blocks_of
 block_in t n i h = block_from t 0 n i h ∙ ap (block_at t) (zero-add i)
 
+-- a table's slots are those of its blocks
+slots_of_from : (t : List ℕ) (i m : ℕ) → map slot_of (blocks_from t i m) ≡ slots_from t i m
+unfolding blocks_from slots_from
+slots_of_from t i zero = refl
+slots_of_from t i (suc m) = ap (λ l. slot_of (block_at t i) ∷ l) (slots_of_from t (suc i) m)
+
+pub slots_of_blocks : (t : List ℕ) (n : ℕ) (l : List (List ℕ)) → l ≡ blocks_of t n → map slot_of l ≡ slots t n
+unfolding blocks_of slots
+slots_of_blocks t n l e = rw e (slots_of_from t 0 n)
+
+pub slot_at : (t : List ℕ) (n i : ℕ) → i < n → get_or (slots t n) i free ≡ slot_of (block_at t i)
+slot_at t n i h =
+    let values = slots_of_blocks t n (blocks_of t n) refl in
+    let long : i < length (blocks_of t n) = omega (arith, length-map (blocks_of t n) slot_of, ap length values, length-slots t n) in
+    rw (← values, get_or-map slot_of (blocks_of t n) i [] free long, block_in t n i h)
+
+pub length_as : (t : List ℕ) (n : ℕ) (l : List (List ℕ)) → LentAs t n l → length l ≡ n
+length_as t n l h = sym (length-map l slot_of) ∙ ap length h.values ∙ length-slots t n
+
+none_bad_at : (l : List Slot) (j : ℕ) → none_bad l ≡ true → j < length l → is_bad (get_or l j free) ≡ false
+unfolding none_bad
+none_bad_at [] j h lt = refl
+none_bad_at (s ∷ l) zero h lt = not-true (is_bad s) (and_true (not (is_bad s)) (none_bad l) h).0
+none_bad_at (s ∷ l) (suc j) h lt = none_bad_at l j (and_true (not (is_bad s)) (none_bad l) h).1 (omega arith)
+
 -- no block of a sound table is bad
+pub sound_in : (l : List (List ℕ)) (i : ℕ) → none_bad (map slot_of l) ≡ true → i < length l → is_bad (slot_of (get_or l i [])) ≡ false
+sound_in l i h lt = rw (get_or-map slot_of l i [] free lt) at (none_bad_at (map slot_of l) i h (omega (arith, length-map l slot_of)))
+
 pub sound_at : (t : List ℕ) (n i : ℕ) → none_bad (slots t n) ≡ true → i < n → is_bad (slot_of (block_at t i)) ≡ false
 sound_at t n i h lt = rw (slot_at t n i lt) at (none_bad_at (slots t n) i h (omega (arith, length-slots t n)))
 
@@ -125,20 +135,22 @@ count-some p i (s ∷ l) k e = go (p s) refl (count-some p (suc i) l k)
     go false eh later = rw eh (later (rw eh at e))
 
 -- the first one, and those behind it
-pub count_first : (p : Slot → Bool) (t : List ℕ) (i m k : ℕ) → first_from p i (slots_from t i m) ≡ Some k → count p (slots_from t i m) ≡ suc (count p (slots_from t (suc k) (i + m - suc k)))
-unfolding first_from count slots_from
-count_first p t i zero k e = let z : ◌≡◌ {A = ℕ} 0 1 = cc in omega arith
-count_first p t i (suc m) k e = go (p (slot_of (block_at t i))) refl (count_first p t (suc i) m k)
+pub count_first : (p : Slot → Bool) (i : ℕ) (l : List Slot) (k : ℕ) → first_from p i l ≡ Some k → count p l ≡ suc (count p (drop (suc k - i) l))
+unfolding first_from count
+count_first p i [] k e = let z : ◌≡◌ {A = ℕ} 0 1 = cc in omega arith
+count_first p i (s ∷ l) k e = go (p s) refl (count_first p (suc i) l k)
   where
-    go : (h : Bool) → p (slot_of (block_at t i)) ≡ h → (first_from p (suc i) (slots_from t (suc i) m) ≡ Some k → count p (slots_from t (suc i) m) ≡ suc (count p (slots_from t (suc k) (suc i + m - suc k)))) → cond (p (slot_of (block_at t i))) (suc (count p (slots_from t (suc i) m))) (count p (slots_from t (suc i) m)) ≡ suc (count p (slots_from t (suc k) (i + suc m - suc k)))
+    go : (h : Bool) → p s ≡ h → (first_from p (suc i) l ≡ Some k → count p l ≡ suc (count p (drop (suc k - suc i) l))) → cond (p s) (suc (count p l)) (count p l) ≡ suc (count p (drop (suc k - i) (s ∷ l)))
     go true eh later =
         let f : Some i ≡ Some k = rw eh at e in
         let same_place : k ≡ i = cc in
-        let left : i + suc m - suc i ≡ m = omega arith in
+        let left : suc i - i ≡ 1 = omega arith in
         rw (eh, same_place, left)
     go false eh later =
-        let left : i + suc m - suc k ≡ suc i + m - suc k = omega arith in
-        rw (eh, left) (later (rw eh at e))
+        let f = rw eh at e in
+        let behind = (first_in_lem p (suc i) l k f).0 in
+        let left : suc k - i ≡ suc (suc k - suc i) = omega arith in
+        rw (eh, left) (later f)
 
 free_is : (s : Slot) → is_free s ≡ true → s ≡ free
 free_is free h = refl
@@ -252,67 +264,19 @@ holds_by_bytes k b len h =
       | held e g ↦ rw (e, g.head.version) (same-take (key_length b) (drop 24 b) k (omega (arith, length-drop 24 b, g.head.key_short)))
     ]
 
--- ---- and what a table's bytes say of its slots
+-- ---- one turn of a search of the blocks from i on
 
-starts-take : (n : ℕ) (l k : List ℕ) → length k ≤ n → starts (take n l) k ≡ starts l k
-unfolding starts
-starts-take n l [] h = refl
-starts-take zero l (y ∷ k) h = absurd (omega arith)
-starts-take (suc n) [] (y ∷ k) h = refl
-starts-take (suc n) (x ∷ l) (y ∷ k) h = ap (λ (r : Bool). eqb x y && r) (starts-take n l k (omega arith))
+module _ (p : Slot → Bool) (l : List (List ℕ)) (i : ℕ) (o : Option ℕ) (left : first_from p i (drop i (map slot_of l)) ≡ o) where
+  turned : i < length l → cond (p (slot_of (get_or l i []))) (Some i) (first_from p (suc i) (drop (suc i) (map slot_of l))) ≡ o
+  unfolding first_from
+  turned more = rw (drop-cons (map slot_of l) i free (omega (arith, length-map l slot_of)), get_or-map slot_of l i [] free more) at left
 
-module _ (t : List ℕ) (n i : ℕ) (lent : Lent t n) (lt : i < n) where
-  fine_at : Fine (block_at t i)
-  fine_at = fine_of (block_at t i) (sound_at t n i lent.sound lt)
-
-  first_byte : byte (block_at t i) 0 ≡ byte t (i * block_bytes)
-  first_byte = rw add-zero at (byte_block t i 0 (omega arith))
-
-  -- a block that is in use has a key within the limits
-  pub key_short_at : byte t (i * block_bytes) ≡ 1 → byte t (i * block_bytes + 1) ≤ key_most
-  key_short_at one =
-      let first = first_byte in
-      let second = byte_block t i 1 (omega arith) in
-      elim fine_at [ unused e z ↦ absurd (omega arith) | held e g ↦ omega (arith, g.head.key_short) ]
-
-  pub free_by_table : is_free (slot_of (block_at t i)) ≡ eqb (byte t (i * block_bytes)) 0
-  free_by_table = rw first_byte at (free_by_bytes (block_at t i) (sound_at t n i lent.sound lt))
-
-  pub holds_by_table : (k : Key) → holds k (slot_of (block_at t i)) ≡ (eqb (byte t (i * block_bytes)) 1 && eqb (byte t (i * block_bytes + 1)) (length k) && starts (drop (i * block_bytes + 24) t) k)
-  holds_by_table k =
-      rw (first_byte, byte_block t i 1 (omega arith), drop_block t i 24 488 refl) at
-      (holds_by_bytes k (block_at t i) (length_block t i (room_for t n i (sized_of t n lent.sized).bytes lt)) (sound_at t n i lent.sound lt))
-      ∙ go (eqb (byte t (i * block_bytes)) 1) (eqb (byte t (i * block_bytes + 1)) (length k)) refl refl
-    where
-      behind : List ℕ
-      behind = drop (i * block_bytes + 24) t
-
-      -- where the lengths are equal the key is within the block
-      go : (x y : Bool) → eqb (byte t (i * block_bytes)) 1 ≡ x → eqb (byte t (i * block_bytes + 1)) (length k) ≡ y → (x && y && starts (take 488 behind) k) ≡ (x && y && starts behind k)
-      go true true ex ey =
-          let short = key_short_at (eqb-true (byte t (i * block_bytes)) 1 ex) in
-          let long = eqb-true (byte t (i * block_bytes + 1)) (length k) ey in
-          starts-take 488 behind k (omega arith)
-      go true false ex ey = refl
-      go false y ex ey = refl
-
--- ---- one turn of a search of the blocks from i up to n
-
-module _ (p : Slot → Bool) (t : List ℕ) (n i : ℕ) (o : Option ℕ) (left : first_from p i (slots_from t i (n - i)) ≡ o) where
-  turned : i < n → cond (p (slot_of (block_at t i))) (Some i) (first_from p (suc i) (slots_from t (suc i) (n - suc i))) ≡ o
-  unfolding first_from slots_from
-  turned more =
-      let e : n - i ≡ suc (n - suc i) = omega arith in
-      rw e at left
-
-  pub turn_on : i < n → p (slot_of (block_at t i)) ≡ false → first_from p (i + 1) (slots_from t (i + 1) (n - (i + 1))) ≡ o
+  pub turn_on : i < length l → p (slot_of (get_or l i [])) ≡ false → first_from p (i + 1) (drop (i + 1) (map slot_of l)) ≡ o
   turn_on more h = rw add-one (rw h at (turned more))
 
-  pub turn_found : i < n → p (slot_of (block_at t i)) ≡ true → Some i ≡ o
+  pub turn_found : i < length l → p (slot_of (get_or l i [])) ≡ true → Some i ≡ o
   turn_found more h = rw h at (turned more)
 
-  pub turn_past : n ≤ i → None ≡ o
-  unfolding first_from slots_from
-  turn_past past =
-      let e : n - i ≡ 0 = omega arith in
-      rw e at left
+  pub turn_past : length l ≤ i → None ≡ o
+  unfolding first_from
+  turn_past past = rw (drop_of_length-le (map slot_of l) {i = i} (omega (arith, length-map l slot_of))) at left

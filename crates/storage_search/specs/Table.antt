@@ -1,10 +1,13 @@
 -- A table as its blocks, and which block is a key's. This page alone says where a key is.
 -- Assumes nothing.
-use Rattle.std.specs.Prelude.{◌≡◌, Bool, true, false, not, cond, ◌&&◌, List, [], ◌∷◌, ◌++◌, ℕ, zero, suc, ◌*◌, eqb, leb, ltb, length, get_or, take, drop}
-use Rattle.std.specs.Prelude.{Option, None, Some}
+use Rattle.std.specs.Prelude.{◌≡◌, Bool, true, false, not, cond, ◌&&◌, List, [], ◌∷◌, ◌++◌, ℕ, zero, suc, ◌*◌, eqb, leb, ltb, length, get_or, take, drop, map}
+use Rattle.std.specs.Prelude.{Option, None, Some, MatchOption}
+use denote.Ref.{Bor}
 use Rattle.leaf_fields.specs.Fields.{same}
 use Rattle.messages.specs.Message.{Key}
 use Rattle.messages.specs.Limits.{registers_most}
+use Rattle.messages.specs.declared.answer.Refusal.{Refusal}
+use Rattle.messages.specs.Refusals.{Test, test}
 use Rattle.storage_block.specs.Block.{Slot, free, used, bad, Register, fresh, block_bytes, slot_of}
 use Rattle.storage_search.specs.declared.Found.{Found}
 
@@ -110,3 +113,20 @@ register_by k l Found.Twice = fresh k
 pub record Lent (t : List ℕ) (n : ℕ) : Type 0 where
   pub sized : is_sized t n ≡ true
   pub sound : none_bad (slots t n) ≡ true
+
+-- the same, with its blocks, whose slots are the table's
+pub record LentAs (t : List ℕ) (n : ℕ) (l : List (List ℕ)) : Type 0 where
+  pub lent : Lent t n
+  pub is_table : l ≡ blocks_of t n
+  pub values : map slot_of l ≡ slots t n
+
+-- a table as its blocks, where it has a size that is not refused
+abbrev pub BlocksOf : List ℕ → ℕ → Option (Bor (List (List ℕ))) → Type 0
+BlocksOf t n o = MatchOption o (is_sized t n ≡ false) (λ b. (is_sized t n ≡ true) × (b.now ≡ blocks_of t n) × (map slot_of b.now ≡ slots t n))
+
+-- refusals 1 and 2 for a table, in rank order
+abbrev pub table_tests : List ℕ → ℕ → List Test
+table_tests t n =
+    test (not (is_sized t n)) Refusal.AreaSize
+    ∷ test (not (none_bad (slots t n))) Refusal.Damaged
+    ∷ []

@@ -1,24 +1,25 @@
-// The table: as many blocks of 512 bytes as it has registers. Where a key's block is, or the block that a new key takes. The table and its
-// registers go on side by side, as the public operations are lent them and refuse them (refusal 1).
+// The table: as many blocks of 512 bytes as it has registers. Where a key's block is, or the block that a new key takes. The public
+// operations are lent a table with its registers side by side and refuse them (refusal 1); behind that test there are blocks alone.
 #![tactic(auto)]
 
-ghost use Rattle.std.specs.Prelude.{◌≡◌, true, ◌-◌, ◌≤◌, length};
+ghost use Rattle.std.specs.Prelude.{◌≡◌, true, Some, MatchResult, ◌≤◌, length, map, drop};
+ghost use Rattle.messages.specs.Refusals.{first_due};
+ghost use Rattle.storage_block.specs.Block.{slot_of};
 ghost use Rattle.storage_search.specs.Table.{
-  Lent,
-  is_sized,
+  BlocksOf,
+  LentAs,
+  table_tests,
   none_bad,
-  blocks_of,
-  slots,
-  slots_from,
   holds,
   is_free,
   first_from,
   where_is,
 };
 
-use messages::REGISTERS_MOST;
+use messages::{REGISTERS_MOST, Refusal};
 use storage_block::{BLOCK, BlockState};
 
+// Where a key is. Four cases, of which two have a block and two have none: no shape of an Option or a Result.
 #[derive(Clone, Copy)]
 pub enum Found {
     // the one block that holds the key
@@ -31,41 +32,45 @@ pub enum Found {
     Twice,
 }
 
-// Whether the table has 1 to 1,024 registers and 512 bytes for each: refusal 1 is not due.
-pub fn is_sized(table: &[u8], registers: usize) -> bool
-    ensures { result ≡ is_sized table.now registers }
+// The table as its blocks, if it has 1 to 1,024 registers and 512 bytes for each: refusal 1 is not due.
+#[tactic(auto, unfolding(crate::specs::Table::is_sized))]
+fn blocks(table: &[u8], registers: usize) -> Option<&[[u8; BLOCK]]>
+    ensures { BlocksOf table.now registers result }
 {
-    (1..=REGISTERS_MOST).contains(&registers) && table.len() == registers * BLOCK
+    if !(1..=REGISTERS_MOST).contains(&registers) || table.len() != registers * BLOCK {
+        return None;
+    }
+    Some(table.as_chunks().0)
 }
 
-// The table as its blocks.
-pub fn blocks(table: &[u8], registers: usize) -> &[[u8; BLOCK]]
-    requires { is_sized table.now registers ≡ true }
-    ensures len { length result.now ≡ registers }
-    ensures value { result.now ≡ blocks_of table.now registers }
+// The blocks of a table that may be searched, or refusal 1 or 2: each block is free or good.
+pub fn sound(table: &[u8], registers: usize) -> Result<&[[u8; BLOCK]], Refusal>
+    ensures { MatchResult result (λ b. LentAs table.now registers b.now) (λ x. first_due (table_tests table.now registers) ≡ Some x) }
 {
-    table.as_chunks().0
+    let blocks = blocks(table, registers).ok_or(Refusal::AreaSize)?;
+    if !is_sound(blocks) {
+        return Err(Refusal::Damaged);
+    }
+    Ok(blocks)
 }
 
 // Whether every block is free or good.
-pub fn is_sound(table: &[u8], registers: usize) -> bool
-    requires { is_sized table.now registers ≡ true }
-    ensures { result ≡ none_bad (slots table.now registers) }
+fn is_sound(blocks: &[[u8; BLOCK]]) -> bool
+    ensures { result ≡ none_bad (map slot_of blocks.now) }
 {
-    blocks(table, registers)
+    blocks
         .iter()
         .all(|b| storage_block::state(b) != BlockState::Bad)
 }
 
 // The first block from `start` on that holds the key, by the labelled nested loop that 01 names: a mismatch goes on with the next block,
 // and a match leaves both loops.
-fn next_holding(table: &[u8], registers: usize, start: usize, key: &[u8]) -> Option<usize>
-    requires lent { Lent table.now registers }
-    requires start_le_registers { start ≤ registers }
-    ensures { result ≡ first_from (holds key.now) start (slots_from table.now start (registers - start)) }
+fn next_holding(blocks: &[[u8; BLOCK]], start: usize, key: &[u8]) -> Option<usize>
+    requires sound { none_bad (map slot_of blocks.now) ≡ true }
+    requires start_le_len { start ≤ length blocks.now }
+    ensures { result ≡ first_from (holds key.now) start (drop start (map slot_of blocks.now)) }
 {
-    let blocks = blocks(table, registers);
-    'blocks: for i in start..registers {
+    'blocks: for i in start..blocks.len() {
         let b = &blocks[i];
         if b[0] != 1 || b[1] as usize != key.len() {
             continue 'blocks;
@@ -80,23 +85,23 @@ fn next_holding(table: &[u8], registers: usize, start: usize, key: &[u8]) -> Opt
     None
 }
 
-// The lowest free block: in a sound table, the first whose byte 0 is 0.
-fn lowest_free(table: &[u8], registers: usize) -> Option<usize>
-    requires { Lent table.now registers }
-    ensures { result ≡ first_from is_free 0 (slots table.now registers) }
+// The lowest free block: among sound ones, the first whose byte 0 is 0.
+fn lowest_free(blocks: &[[u8; BLOCK]]) -> Option<usize>
+    requires { none_bad (map slot_of blocks.now) ≡ true }
+    ensures { result ≡ first_from is_free 0 (map slot_of blocks.now) }
 {
-    blocks(table, registers).iter().position(|b| b[0] == 0)
+    blocks.iter().position(|b| b[0] == 0)
 }
 
-// The block of a key in a sound table: the search of 01, called once a message.
-pub fn locate(table: &[u8], registers: usize, key: &[u8]) -> Found
-    requires { Lent table.now registers }
-    ensures { result ≡ where_is key.now (slots table.now registers) }
+// The block of a key among those of a sound table: the search of 01, called once a message.
+pub fn locate(blocks: &[[u8; BLOCK]], key: &[u8]) -> Found
+    requires { none_bad (map slot_of blocks.now) ≡ true }
+    ensures { result ≡ where_is key.now (map slot_of blocks.now) }
 {
-    let Some(i) = next_holding(table, registers, 0, key) else {
-        return lowest_free(table, registers).map_or(Found::Full, Found::Free);
+    let Some(i) = next_holding(blocks, 0, key) else {
+        return lowest_free(blocks).map_or(Found::Full, Found::Free);
     };
-    match next_holding(table, registers, i + 1, key) {
+    match next_holding(blocks, i + 1, key) {
         Some(_) => Found::Twice,
         None => Found::At(i),
     }

@@ -1,11 +1,11 @@
 // The writer of blocks: a register as 512 bytes. What they are stands in storage_block/specs/Block.antt.
 #![tactic(auto)]
 
-ghost use Rattle.std.specs.Prelude.{◌≡◌, ◌≤◌, length, take, replicate};
+ghost use Rattle.std.specs.Prelude.{◌≡◌, ◌≤◌, length, take};
 ghost use Rattle.messages.specs.Message.{given};
 ghost use Rattle.messages.specs.Answers.{bytes_of};
 ghost use Rattle.messages.specs.Limits.{key_most, value_most};
-ghost use Rattle.storage_block.specs.Block.{mark_byte, front, sealed, image, register};
+ghost use Rattle.storage_block.specs.Block.{front, sealed, image, register};
 
 use messages::{Ballot, Lent};
 use storage_block::BLOCK;
@@ -20,24 +20,20 @@ pub struct Register<'a> {
     pub bytes: &'a [u8],
 }
 
-// A byte of this layout for a type of another crate, so no `From`.
-fn mark_byte(value: Option<Lent>) -> u8
-    ensures { result ≡ mark_byte value }
+// Bytes 0 to 23 of a register's block.
+#[tactic(auto, unfolding(storage_block::specs::Block::front, leaf_fields::specs::Fields::to_le))]
+fn front(r: Register, len: usize) -> [u8; 24]
+    requires { (length r.key.now ≤ key_most) × (len ≤ value_most) }
+    ensures { result ≡ front (length r.entry.key.now) r.entry.seen r.entry.accepted r.entry.value len }
 {
-    u8::from(value.is_some())
-}
-
-// Bytes 0 to 23 of a block that is zero so far: a slice, since a part of the block as an array would come out of an Option.
-fn write_front(b: &mut [u8], r: Register, len: usize)
-    requires { (b.old ≡ replicate 24 0) × (length r.key.now ≤ key_most) × (len ≤ value_most) }
-    ensures { b.new ≡ front (length r.entry.key.now) r.entry.seen r.entry.accepted r.entry.value len }
-{
-    leaf_fields::write(b, 4, len as u16);
-    leaf_fields::write(b, 8, r.seen.0);
-    leaf_fields::write(b, 16, r.accepted.0);
+    let mut b = [0; 24];
+    leaf_fields::write(&mut b, 4, len as u16);
+    leaf_fields::write(&mut b, 8, r.seen.0);
+    leaf_fields::write(&mut b, 16, r.accepted.0);
     b[0] = 1;
     b[1] = r.key.len() as u8;
-    b[2] = mark_byte(r.value);
+    b[2] = Lent::mark(r.value);
+    b
 }
 
 // The two sums of bytes 0 to 503, stored behind them.
@@ -56,7 +52,7 @@ pub fn write(b: &mut [u8; BLOCK], r: Register)
 {
     let stored = messages::present(r.value, r.bytes);
     leaf_fields::clear(b);
-    write_front(&mut b[..24], r, stored.len());
+    leaf_fields::copy(b, 0, &front(r, stored.len()));
     leaf_fields::copy(b, 24, r.key);
     leaf_fields::copy(b, 88, stored);
     seal(b);

@@ -36,9 +36,6 @@ loop-i-init c =
 pub overflow_mul-x : goal.overflow_mul-x
 overflow_mul-x c = omega (arith, fits c.args.n c.loop-i.i c.loop-i.x 0 (search rules) (search rules) (search rules) (search rules) (lit< tt))
 
-pub overflow_cast-x : goal.overflow_cast-x
-overflow_cast-x c = omega (arith, c.type_inv.s (c.args.at + (c.loop-i.i - 1)))
-
 pub overflow_add-x-in-loop-i : goal.overflow_add-x-in-loop-i
 overflow_add-x-in-loop-i c =
     let b = c.type_inv.s (c.args.at + (c.loop-i.i - 1)) in
@@ -53,11 +50,3 @@ loop-i-preserved c =
       turn a.s.now a.at a.n l.i l.x (search rules) (search rules) (search rules) l.invariant.1,
       grows a.n l.i l.x _ (search rules) (search rules) l.invariant.2 b.fits,
     )
-
-pub returns : goal.returns
-returns c =
-    let a = c.args in
-    let l = c.loop-i in
-    let e1 : a.n - l.i ≡ a.n = omega arith in
-    let e2 : a.at + l.i ≡ a.at = omega arith in
-    (rw (e1, e2) at l.invariant.1, rw e1 at l.invariant.2)

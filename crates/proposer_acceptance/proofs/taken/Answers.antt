@@ -4,7 +4,7 @@ use mathlib.Core.Path.{refl}
 use Rattle.proposer_acceptance.specs.AcceptanceLaws.{acceptance_noted, acceptance_settled}
 use Rattle.proposer_area.specs.HeldLaws.{lawful_pending, place_held}
 use Rattle.proposer_place.specs.PlaceLaws.{lawful_yes}
-use Rattle.proposer_works.specs.Room.{held_room, held_used}
+use Rattle.proposer_works.specs.Room.{held_used}
 use borrow.Author.Rules.{rules}
 use Rattle.proposer_acceptance.proofs.taken.Goals as goal
 
@@ -13,7 +13,7 @@ take_place-f-requires c = c.requires.1.pends.within
 
 pub note_yes-requires : goal.note_yes-requires
 note_yes-requires c =
-    (held_room _ _ _ c.args.area.now.held c.requires.1.pends, held_used _ _ _ c.args.area.now.held c.requires.1.pends, c.requires.1.more_yeses)
+    (held_used _ _ _ c.args.area.now.held c.requires.1.pends, c.requires.1.more_yeses)
 
 pub returns-then-short_of : goal.returns-then-short_of
 returns-then-short_of c =

@@ -1,7 +1,6 @@
 -- `proposer_clock::expire` meets its contract. The loop's invariant: what is left to drop and to tell gives what the rules drop and tell.
 -- Assumes nothing.
-use mathlib.Core.Path.{◌≡◌, refl, sym, ap, subst, ◌∙◌}
-use mathlib.Core.Bool.{true}
+use mathlib.Core.Path.{◌≡◌, refl, sym, subst}
 use Rattle.std.specs.Prelude.{None}
 use mathlib.Core.List.{List, [], ◌∷◌}
 use Prim.Native.Nat.{ℕ, ◌+◌, ◌*◌, ◌≤◌, ◌<◌}
@@ -10,25 +9,15 @@ use native.Mathlib.Omega.{arith}
 use lib.ListN.{length}
 use lib.Seq.{sets}
 use Rattle.messages.specs.Answers.{rows_at, row_bytes, rows_bytes}
-use Rattle.proposer_rules.specs.State.{Proposer}
 use Rattle.proposer_rules.specs.Rules.{moved, in_time, late_ones, rows_of}
 use Rattle.proposer_place.specs.declared.front.Front.{Front}
 use Rattle.proposer_place.specs.Front.{front_of}
-use Rattle.proposer_place.specs.Area.{header_bytes, place_bytes, place_image, area_image, read_pending, read_places, read_area, sized}
-use Rattle.proposer_area.specs.Turns.{sized_of}
-use Rattle.proposer_area.specs.declared.Header.{Header}
-use Rattle.proposer_area.specs.Places.{header_in, place_at, place_in}
+use Rattle.proposer_place.specs.Area.{header_bytes, place_image, area_image, read_pending, read_places, read_area}
+use Rattle.proposer_area.specs.Places.{place_at, place_in}
 use Rattle.proposer_clock.specs.Late.{late_of}
-use Rattle.proposer_area.specs.Held.{Held}
 use Rattle.proposer_area.specs.HeldLaws.{place_room, place_held}
 use Rattle.proposer_clock.specs.TickLaws.{Expiring, Expired, expire_begins, expire_ends, expire_full, expire_goes_on}
 use Rattle.proposer_clock.proofs.expire.Goals as goal
-
--- ---- what the calls require
-
-timeout_now : (a w : List ℕ) (n t k : ℕ) (a' w' : List ℕ) (h : Header) → Expiring a w n t k a' w' → h ≡ header_in a → h.timeout ≡ (read_area a' n).timeout
-unfolding read_area
-timeout_now a w n t k a' w' h here eh = ap (λ (g : Header). g.timeout) eh ∙ sym (ap (λ (s : Proposer). s.timeout) here.same)
 
 -- ---- the turns
 
@@ -63,10 +52,6 @@ one_more_here a w n n' t k a' w' i f a₁ w₁ en here ei within ef ew ea =
 
 pub loop-k-init : goal.loop-k-init
 loop-k-init c = (expire_begins _ _ _ _ c.args.area.now.held c.requires, refl, refl)
-
-pub lowest_late-requires : goal.lowest_late-requires
-unfolding read_area
-lowest_late-requires c = timeout_now _ _ _ _ _ _ _ _ c.loop-k.invariant.0 c.header-h.ensures.0
 
 pub returns-in_default : goal.returns-in_default
 returns-in_default c =

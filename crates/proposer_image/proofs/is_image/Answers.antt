@@ -1,44 +1,30 @@
 -- `proposer_image::is_image` meets its contract: the header, the places and the ballots are the parts of the test.
 -- Assumes nothing.
-use Rattle.std.proofs.Common.{◌≡◌, List, ℕ, ◌&&◌, ◌≤◌, length, refl, sym, ap, ◌∙◌, true, arith}
+use Rattle.std.proofs.Common.{◌≡◌, Bool, List, ℕ, ◌&&◌, length, map, sym, ap, ◌∙◌, true}
+use Rattle.std.proofs.Common.{arith}
+use Rattle.std.proofs.lemmas.Grind.{common_steps}
+use Rattle.std.specs.List.{list_all}
 use Rattle.leaf_fields.specs.Fields.{Bytes}
-use Rattle.proposer_area.specs.declared.Header.{Header}
-use Rattle.proposer_place.specs.Area.{sized, long_at}
-use Rattle.proposer_image.specs.Good.{header_good, places_good}
+use Rattle.proposer_place.specs.Area.{area_bytes, sized, is_image, long_at, read_place, ballots_of, distinct}
+use Rattle.proposer_area.specs.Places.{places_in}
+use Rattle.proposer_area.specs.Chunks.{places_read}
 use Rattle.proposer_area.specs.Turns.{sized_of}
+use Rattle.proposer_image.specs.Good.{header_good, place_good}
+use Rattle.proposer_image.specs.Each.{places_good_all}
 use Rattle.proposer_image.specs.GoodLaws.{image_parts}
-use Rattle.proposer_image.proofs.Laws.{and_first, and_second}
-use Rattle.proposer_image.proofs.is_image.Goals.{then-header_good, else-header_good, Joined-header_good}
 use Rattle.proposer_image.proofs.is_image.Goals as goal
 
-header_room : (a : List ℕ) (n : ℕ) → sized a n ≡ true → 80 ≤ length a
-header_room a n h = omega (arith, sized_of a n h)
-
--- the tests of the header and of the places
-tests : (c : Joined-header_good) → c.if-header_good.value ≡ (header_good c.args.area.now && places_good (long_at c.args.area.now 0) c.args.area.now 80 c.args.places)
-tests c =
-    elim c.if-header_good.branch [
-      | then-header_good w ↦ and_second _ _ _ _ _ c.header_good.ensures w.if-header_good.true (w.places_good.ensures ∙ ap (λ (h : Header). places_good h.counter c.args.area.now 80 c.args.places) w.take_header.ensures.0) w.value-is
-      | else-header_good w ↦ and_first _ _ _ _ c.header_good.ensures w.if-header_good.false w.value-is
-    ]
-
--- the bytes of a slice are bytes
-area_bytes : (c : Joined-header_good) → Bytes c.args.area.now
-unfolding Bytes
-area_bytes c = λ i. (c.type_inv.area i).fits
-
-pub header_good-requires : goal.header_good-requires
-header_good-requires c = search header_room
-
-pub take_header-requires : goal.take_header-requires
-take_header-requires c = search header_room
+-- the tests of all places are those of the image
+by_places : (a : List ℕ) (l : List (List ℕ)) (r : Bool) → Bytes a → ((n : ℕ) → length a ≡ area_bytes n → l ≡ places_in a n) → r ≡ (header_good a && list_all (place_good (long_at a 0)) l && distinct (ballots_of (map read_place l))) → (n : ℕ) → sized a n ≡ true → r ≡ is_image a n
+by_places a l r bytes all e n h =
+    e
+    ∙ ap (λ k. header_good a && list_all (place_good (long_at a 0)) k && distinct (ballots_of (map read_place k))) (all n (sized_of a n h).bytes)
+    ∙ rw (places_good_all (long_at a 0) a n, ← places_read a n) (sym (image_parts a n bytes h))
 
 pub returns-then-places_good : goal.returns-then-places_good
-returns-then-places_good c =
-    let j = (goal.at.returns-then-places_good c).Joined-header_good in
-    and_second _ _ _ _ _ (tests j) c.if-places_good.true c.ballots_distinct.ensures refl ∙ sym (image_parts _ _ (area_bytes j) c.requires)
+unfolding Bytes
+returns-then-places_good c = by_places _ _ _ (λ i. (c.type_inv.area i).fits) c.places_in-places.ensures (grind (arith, common_steps))
 
 pub returns-else-places_good : goal.returns-else-places_good
-returns-else-places_good c =
-    let j = (goal.at.returns-else-places_good c).Joined-header_good in
-    and_first _ _ _ _ (tests j) c.if-places_good.false refl ∙ sym (image_parts _ _ (area_bytes j) c.requires)
+unfolding Bytes
+returns-else-places_good c = by_places _ _ _ (λ i. (c.type_inv.area i).fits) c.places_in-places.ensures (grind (arith, common_steps))

@@ -1,148 +1,52 @@
 -- `proposer_rounds::to_accept` meets its contract: what it lends and stores has room, and the place and the accept requests are the rules'.
 -- Assumes nothing.
-use mathlib.Core.Path.{refl}
-use Prim.Native.Nat.{◌+◌, ◌-◌, ◌*◌}
-use lib.ListN.{take, drop}
-use Rattle.messages.specs.Message.{given}
-use Rattle.messages.specs.Answers.{bytes_of}
-use Rattle.proposer_rules.specs.Rules.{applied, request_in}
-use Rattle.proposer_works.specs.Lent.{applied_fits}
+use Rattle.std.proofs.Common.{refl, rules, arith, ◌≡◌}
+use Rattle.std.specs.Prelude.{◌+◌, ◌*◌, ◌-◌, ◌≤◌, length, take, drop}
+use Rattle.proposer_works.specs.Lent.{new_short}
+use Rattle.proposer_works.specs.Sent.{sent_in}
+use Rattle.proposer_works.specs.Room.{held_header, held_used, accept_few, accept_lent, key_short, entries_end}
 use Rattle.proposer_rounds.specs.RoundLaws.{second_begun, second_held}
-use Rattle.proposer_works.specs.Room.{held_bytes, held_few, held_room, held_used, pends_within, accept_few, accept_lent, key_short, bounds_of, Bounds, entries_end, entries_sent}
-use borrow.Author.Rules.{rules}
-use native.Mathlib.Omega.{arith}
 use Rattle.proposer_rounds.proofs.to_accept.Goals as goal
-use Rattle.proposer_rounds.proofs.to_accept.Goals.{After-take_place-f}
+use Rattle.proposer_rounds.proofs.to_accept.Goals.{After-send-sent}
 
--- what bounds the parts that are lent
-bounds : (c : After-take_place-f) → Bounds c.args.area.now.bytes.now c.args.i c.take_place-f.result c.header-h.result
-bounds c =
-    let place = c.take_place-f in
-    bounds_of _ _ _ _ _ c.args.area.now.held c.requires.1 c.header-h.ensures.0 place.ensures.1.key place.ensures.2 place.ensures.3
+-- what was put into the answer area, by the area's own bytes
+sent : (c : After-send-sent) → c.send-sent.new.answer ≡ sent_in c.args.answer.now c.new_value.result.now c.key.result.now (take (20 + 2 * c.header-h.result.accept - 20) (drop 20 c.args.area.now.bytes.now))
+sent c = rw c.bytes.ensures at c.send-sent.ensures.0
 
-pub take_place-f-requires : goal.take_place-f-requires
-take_place-f-requires c = c.requires.1.within
+ends : (c : After-send-sent) → 320 + 2 * c.header-h.result.accept ≤ length c.send-sent.new.answer
+ends c = entries_end _ _ c.new_value.result.now c.key.result.now (take (20 + 2 * c.header-h.result.accept - 20) (drop 20 c.args.area.now.bytes.now)) _ _ c.requires.0 (sent c) (accept_few _ _ _ c.args.area.now.held c.header-h.ensures.0)
 
-pub overflow_mul-place : goal.overflow_mul-place
-overflow_mul-place c = omega (arith, bounds (c))
+pub slice_bounds-list-end : goal.slice_bounds-list-end
+slice_bounds-list-end c = rw c.bytes.ensures (omega (arith, held_header _ _ c.args.area.now.held, c.header-h.ensures.1))
 
-pub overflow_add-place : goal.overflow_add-place
-overflow_add-place c = omega (arith, bounds (c))
-
-pub overflow_add-key : goal.overflow_add-key
-overflow_add-key c = omega (arith, bounds (goal.at.overflow_add-key c).After-take_place-f)
-
-pub overflow_add-values : goal.overflow_add-values
-overflow_add-values c = omega (arith, bounds (goal.at.overflow_add-values c).After-take_place-f)
-
-pub overflow_add-both : goal.overflow_add-both
-overflow_add-both c = omega (arith, bounds (goal.at.overflow_add-both c).After-take_place-f)
-
-pub overflow_add-both-2 : goal.overflow_add-both-2
-overflow_add-both-2 c = omega (arith, bounds (goal.at.overflow_add-both-2 c).After-take_place-f)
-
-pub overflow_add-promised : goal.overflow_add-promised
-overflow_add-promised c = omega (arith, bounds (goal.at.overflow_add-promised c).After-take_place-f)
-
-pub overflow_add-change : goal.overflow_add-change
-overflow_add-change c = omega (arith, bounds (goal.at.overflow_add-change c).After-take_place-f)
-
-pub slice_bounds-change-end : goal.slice_bounds-change-end
-slice_bounds-change-end c = rw c.bytes-bytes.ensures (omega (arith, bounds (goal.at.slice_bounds-change-end c).After-take_place-f))
-
-pub slice_bounds-change-end-2 : goal.slice_bounds-change-end-2
-slice_bounds-change-end-2 c = rw c.bytes-bytes.ensures (omega (arith, bounds (goal.at.slice_bounds-change-end-2 c).After-take_place-f))
-
-pub overflow_add-key-2 : goal.overflow_add-key-2
-overflow_add-key-2 c = omega (arith, bounds (goal.at.overflow_add-key-2 c).After-take_place-f)
-
-pub slice_bounds-send_new-end : goal.slice_bounds-send_new-end
-slice_bounds-send_new-end c = rw c.bytes-bytes.ensures (omega (arith, bounds (goal.at.slice_bounds-send_new-end c).After-take_place-f))
-
-pub slice_bounds-send_new-end-2 : goal.slice_bounds-send_new-end-2
-slice_bounds-send_new-end-2 c = rw c.bytes-bytes.ensures (omega (arith, bounds (goal.at.slice_bounds-send_new-end-2 c).After-take_place-f))
-
-pub send_new-len-requires : goal.send_new-len-requires
-send_new-len-requires c =
-    let header = c.header-h in
-    let place = c.take_place-f in
-    let args = c.args in
-    let a = args.area.now.bytes.now in
-    let n = args.area.now.places in
-    let i = args.i in
-    let f = place.result in
-    let h = header.result in
-    let held = c.args.area.now.held in
-    let pends = c.requires.1 in (
+pub send-sent-requires : goal.send-sent-requires
+send-sent-requires c =
+    let area = c.args.area.now in (
       search rules,
-      rw c.bytes-bytes.ensures (applied_fits a n i f held pends place.ensures.0),
-      rw c.bytes-bytes.ensures (key_short a n i f held pends place.ensures.0),
-      rw c.bytes-bytes.ensures (accept_lent a n h held header.ensures.0),
+      rw c.new_value.ensures (rw (c.change-change.ensures, c.request_at-request.ensures) (new_short _ _ _ area.held c.requires.1)),
+      rw c.key.ensures (rw c.request_at-request.ensures (key_short _ _ _ area.held c.requires.1)),
+      rw c.bytes.ensures (accept_lent _ _ _ area.held c.header-h.ensures.0),
     )
 
-pub overflow_mul-entries : goal.overflow_mul-entries
-overflow_mul-entries c = omega (arith, bounds (goal.at.overflow_mul-entries c).After-take_place-f)
-
-pub overflow_add-entries : goal.overflow_add-entries
-overflow_add-entries c = omega (arith, bounds (goal.at.overflow_add-entries c).After-take_place-f)
-
-pub slice_bounds-second_phase-end-2 : goal.slice_bounds-second_phase-end-2
-slice_bounds-second_phase-end-2 c =
-    let header = c.header-h in
-    let place = c.take_place-f in
-    let args = c.args in
-    let a = args.area.now.bytes.now in
-    let n = args.area.now.places in
-    let i = args.i in
-    let f = place.result in
-    let h = header.result in
-    let held = c.args.area.now.held in
-    let values = take (80 + 976 * i + 208 + f.first_len + f.second_len - (80 + 976 * i + 208)) (drop (80 + 976 * i + 208) a) in
-    let promised = take (80 + 976 * i + 720 + f.value_len - (80 + 976 * i + 720)) (drop (80 + 976 * i + 720) a) in
-    let new = bytes_of (applied (request_in f.req values f.first_len) (given f.mark promised)).value in
-    let key = take (80 + 976 * i + 144 + f.key_len - (80 + 976 * i + 144)) (drop (80 + 976 * i + 144) a) in
-    let list = take (20 + 2 * h.accept - 20) (drop 20 a) in
-    entries_end args.answer.now _ new key list n h.accept c.requires.0 (rw c.bytes-bytes.ensures at c.send_new-len.ensures.1) (accept_few a n h held header.ensures.0)
+pub list-waited-requires : goal.list-waited-requires
+list-waited-requires c = ends (goal.at.list-waited-requires c).After-send-sent
 
 pub second_phase-requires : goal.second_phase-requires
 second_phase-requires c =
-    let header = c.header-h in
-    let place = c.take_place-f in
-    let args = c.args in
-    let a = args.area.now.bytes.now in
-    let n = args.area.now.places in
-    let i = args.i in
-    let f = place.result in
-    let h = header.result in
     let held = c.args.area.now.held in
-    let pends = c.requires.1 in
-    let values = take (80 + 976 * i + 208 + f.first_len + f.second_len - (80 + 976 * i + 208)) (drop (80 + 976 * i + 208) a) in
-    let promised = take (80 + 976 * i + 720 + f.value_len - (80 + 976 * i + 720)) (drop (80 + 976 * i + 720) a) in
-    let new = bytes_of (applied (request_in f.req values f.first_len) (given f.mark promised)).value in
-    let key = take (80 + 976 * i + 144 + f.key_len - (80 + 976 * i + 144)) (drop (80 + 976 * i + 144) a) in
-    let list = take (20 + 2 * h.accept - 20) (drop 20 a) in (
-      held_room a n i held pends,
-      held_used a n i held pends,
-      accept_few a n h held header.ensures.0,
-      entries_sent args.answer.now _ new key list n h.accept c.requires.0 (rw c.bytes-bytes.ensures at c.send_new-len.ensures.1) (accept_few a n h held header.ensures.0),
-    )
-
-pub returns : goal.returns
-returns c =
-    let header = c.header-h in
-    let place = c.take_place-f in
-    let args = c.args in
-    let a = args.area.now.bytes.now in
-    let n = args.area.now.places in
-    let i = args.i in
-    let f = place.result in
-    let h = header.result in
-    let held = c.args.area.now.held in
-    let pends = c.requires.1 in
-    record { worked = second_begun a n i f held pends place.ensures.0 args.answer.now h c.requires.0 header.ensures.0 f.req f.mark _ f.ballot _ _ _ _ refl refl refl (rw c.bytes-bytes.ensures at c.new_mark-new.ensures) (rw c.bytes-bytes.ensures at c.send_new-len.ensures.0) (rw c.bytes-bytes.ensures at c.send_new-len.ensures.1) c.second_phase.ensures c.broadcast.ensures; lent = refl; places = refl }
+    (held_used _ _ _ held c.requires.1, rw c.list-waited.ensures.1 (accept_few _ _ _ held c.header-h.ensures.0))
 
 pub invariant_of-area : goal.invariant_of-area
 invariant_of-area c =
-    let area = c.args.area.now in
-    let f = c.take_place-f.result in
-    record { held = second_held area.bytes.now area.places c.args.i f area.held c.requires.1 c.take_place-f.ensures.0 c.args.answer.now c.header-h.result c.requires.0 c.header-h.ensures.0 f.req f.mark _ _ refl refl (rw c.bytes-bytes.ensures at c.send_new-len.ensures.1) c.second_phase.ensures }
+    record { held = second_held _ _ _ _ c.args.area.now.held c.requires.1 (rw c.request_at-request.ensures at c.request_at-request.result.taken) _ _ c.requires.0 c.header-h.ensures.0 c.new_value.result.now c.key.result.now _ _ (sent (goal.at.invariant_of-area c).After-send-sent) (rw c.list-waited.ensures.0 at c.second_phase.ensures) }
+
+pub returns : goal.returns
+returns c =
+    record {
+      worked =
+          second_begun _ _ _ _ c.args.area.now.held c.requires.1 (rw c.request_at-request.ensures at c.request_at-request.result.taken) _ _ c.requires.0 c.header-h.ensures.0 c.new_mark.result _ c.new_value.result.now c.key.result.now _ _ _ refl
+          (rw (c.change-change.ensures, c.request_at-request.ensures) at c.new_mark.ensures) (rw (c.change-change.ensures, c.request_at-request.ensures) at c.new_value.ensures) (rw c.request_at-request.ensures at c.key.ensures)
+          (sent (goal.at.returns c).After-send-sent) (rw c.list-waited.ensures.0 at c.second_phase.ensures) (rw c.bytes.ensures at c.send-sent.ensures.1);
+      lent = refl;
+      places = refl;
+    }

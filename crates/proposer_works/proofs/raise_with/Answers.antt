@@ -5,7 +5,7 @@ use Rattle.proposer_area.specs.HeldLaws.{lawful_pending, place_held, counter_hel
 use Rattle.proposer_area.specs.Held.{Held}
 use Rattle.proposer_place.specs.PlaceLaws.{lawful_no}
 use Rattle.proposer_works.specs.Dropped.{no_noted}
-use Rattle.proposer_works.specs.Room.{held_room, held_used, held_header}
+use Rattle.proposer_works.specs.Room.{held_used, held_header}
 use borrow.Author.Rules.{rules}
 use Rattle.proposer_works.proofs.raise_with.Goals as goal
 use Rattle.proposer_works.proofs.raise_with.Goals.{After-note_no}
@@ -19,7 +19,7 @@ noted_held c =
 pub note_no-requires : goal.note_no-requires
 note_no-requires c =
     let area = c.args.area.now in
-    (held_room _ _ _ area.held c.requires.pends, held_used _ _ _ area.held c.requires.pends, c.requires.more_noes)
+    (held_used _ _ _ area.held c.requires.pends, c.requires.more_noes)
 
 pub invariant_of-area : goal.invariant_of-area
 invariant_of-area c = record { held = noted_held (goal.at.invariant_of-area c).After-note_no }

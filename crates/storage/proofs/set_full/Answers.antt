@@ -1,8 +1,8 @@
 -- `storage::set_full` meets its contract: a spare block reads as a fresh register, and what it would take finds no room.
 -- Assumes nothing.
-use Rattle.std.proofs.Common.{◌≡◌, refl, true, List, ℕ, Option, Some, None, Ok, Err, Result, replicate, rules}
+use Rattle.std.proofs.Common.{◌≡◌, refl, true, List, ℕ, Option, Some, None, Err, Result, replicate}
 use Rattle.std.proofs.lemmas.List.{length-replicate}
-use Rattle.std.proofs.lemmas.Result.{err_from_is_err_and}
+use Rattle.std.specs.Result.{result_and}
 use Rattle.leaf_fields.specs.Laws.{zeros_zero}
 use Rattle.messages.specs.Refusals.{first_due}
 use Rattle.messages.specs.declared.answer.Refusal.{Refusal}
@@ -16,35 +16,17 @@ spare_readable : readable (replicate 512 0) ≡ true
 unfolding readable
 spare_readable = rw (zeros_zero 512)
 
-abbrev stored : Option Refusal → Result (Unit {0}) Refusal
-stored o = refused_or o tt
-
-taken : (o : Option Refusal) → Ok tt ≡ stored o → Err Refusal.NoRoom ≡ or_no_room o
-taken None e = refl
-taken (Some x) e = cc
-
-kept_out : (o : Option Refusal) (x : Refusal) → Err x ≡ stored o → Err x ≡ or_no_room o
-kept_out None x e = cc
-kept_out (Some y) x e = cc
+by_due : (o : Option Refusal) → result_and (refused_or {A = Unit {0}} o tt) (Err Refusal.NoRoom) ≡ or_no_room o
+by_due None = refl
+by_due (Some x) = refl
 
 -- the answer of a fresh register
-module _ (key bytes : List ℕ) (change : Change) where
-  fresh_done : first_due (register_tests (changed change bytes (register_with key (replicate 512 0)))) ≡ first_due (register_tests (changed change bytes (fresh key)))
-  fresh_done = rw (free_register key (replicate 512 0) (length-replicate {A = ℕ} 512 0) (zeros_zero 512))
-
-  no_room : Ok tt ≡ stored (first_due (register_tests (changed change bytes (register_with key (replicate 512 0))))) → Err Refusal.NoRoom ≡ full_by (changed change bytes (fresh key))
-  no_room e = rw fresh_done at (taken _ e)
-
-  refused : (x : Refusal) → Err x ≡ stored (first_due (register_tests (changed change bytes (register_with key (replicate 512 0))))) → Err x ≡ full_by (changed change bytes (fresh key))
-  refused x e = rw fresh_done at (kept_out _ x e)
+no_room : (key bytes : List ℕ) (change : Change) (d r : Result (Unit {0}) Refusal) → d ≡ refused_or (first_due (register_tests (changed change bytes (register_with key (replicate 512 0))))) tt → r ≡ result_and d (Err Refusal.NoRoom) → r ≡ full_by (changed change bytes (fresh key))
+no_room key bytes change d r ed er =
+    rw (er, ed, free_register key (replicate 512 0) (length-replicate {A = ℕ} 512 0) (zeros_zero 512)) (by_due (first_due (register_tests (changed change bytes (fresh key)))))
 
 pub set_in-requires : goal.set_in-requires
-set_in-requires c = (search rules, search spare_readable)
+set_in-requires c = search spare_readable
 
 pub returns : goal.returns
-returns c = no_room c.args.key.now c.args.bytes.now c.args.change c.in_ok-set_in.ensures.done
-
-pub returns-in_err-set_in : goal.returns-in_err-set_in
-returns-in_err-set_in c =
-    let p = err_from_is_err_and c.from_residual.result c.from_residual.ensures.1 in
-    rw (p.1, p.2) (refused c.args.key.now c.args.bytes.now c.args.change _ c.in_err-set_in.ensures.done)
+returns c = no_room c.args.key.now c.args.bytes.now c.args.change _ _ c.set_in.ensures.done c.and.ensures

@@ -1,14 +1,16 @@
--- `storage_search::lowest_free` meets its contract: in a sound table the test of each block is that of its slot.
+-- `storage_search::lowest_free` meets its contract: among sound blocks the test of each is that of its slot.
 -- Assumes nothing.
-use Rattle.std.proofs.Common.{◌≡◌, refl, Bool, true, false, List, ℕ, zero, suc, eqb, not, cond, ltb, ◌+◌, ◌<◌, Some, None, Option, length, ◌∙◌, rules, zero-add, add-zero, arith}
+use Rattle.std.proofs.Common.{◌≡◌, refl, Bool, true, false, List, [], ◌∷◌, ℕ, suc, eqb, not, cond, ltb, ◌+◌, Some, None, Option, length, map, ◌∙◌, rules, zero-add, add-zero, arith}
+use Rattle.std.proofs.lemmas.Bool.{not-true}
 use Rattle.std.proofs.lemmas.Iterator.{YieldsList-from_slice}
 use Rattle.std.proofs.lemmas.Iterator.Search.{position_from_yields_List}
 use Rattle.std.specs.List.{position, position_or_len}
 use borrow.Author.Tests.{tests, lt-ltb}
 use Rattle.leaf_fields.specs.Fields.{byte}
+use Rattle.leaf_fields.specs.Laws.{and_true}
 use Rattle.storage_block.specs.Block.{slot_of}
-use Rattle.storage_search.specs.Table.{block_at, blocks_from, blocks_of, slots_from, slots, is_free, first_from, Lent}
-use Rattle.storage_search.specs.Laws.{free_by_bytes, sound_at}
+use Rattle.storage_search.specs.Table.{is_bad, none_bad, is_free, first_from}
+use Rattle.storage_search.specs.Laws.{free_by_bytes}
 use Rattle.storage_search.proofs.lowest_free.Goals as goal
 
 abbrev unused : List ℕ → Bool
@@ -25,16 +27,17 @@ turn false f i p n rest e l =
     let less : ltb (1 + p) (suc n) ≡ ltb p n = grind (arith, tests) in
     rw (e, m, less) l
 
-first : (t : List ℕ) (i m : ℕ) → ((k : ℕ) → k < i + m → is_free (slot_of (block_at t k)) ≡ unused (block_at t k)) → place i (blocks_from t i m) ≡ first_from is_free i (slots_from t i m)
-unfolding blocks_from slots_from first_from
-first t i zero same = refl
-first t i (suc m) same = turn (unused (block_at t i)) (is_free (slot_of (block_at t i))) i _ _ _ (same i (omega arith)) (first t (suc i) m (λ k lt. same k (omega arith)))
+first : (i : ℕ) (l : List (List ℕ)) → none_bad (map slot_of l) ≡ true → place i l ≡ first_from is_free i (map slot_of l)
+unfolding none_bad first_from
+first i [] sound = refl
+first i (b ∷ l) sound =
+    let both = and_true (not (is_bad (slot_of b))) (none_bad (map slot_of l)) sound in
+    turn (unused b) (is_free (slot_of b)) i _ _ _ (free_by_bytes b (not-true (is_bad (slot_of b)) both.0)) (first (suc i) l both.1)
 
-whole : (t : List ℕ) (n : ℕ) → Lent t n → position unused (blocks_of t n) ≡ first_from is_free 0 (slots t n)
-unfolding blocks_of slots
-whole t n lent = rw zero-add at (first t 0 n (λ k lt. free_by_bytes (block_at t k) (sound_at t n k lent.sound (omega arith))))
+whole : (l : List (List ℕ)) → none_bad (map slot_of l) ≡ true → position unused l ≡ first_from is_free 0 (map slot_of l)
+whole l sound = rw zero-add at (first 0 l sound)
 
 pub returns : goal.returns
 returns c =
-    position_from_yields_List unused _ _ c.position.result c.position.ensures.ran (YieldsList-from_slice (blocks_of c.args.table.now c.args.registers) cc) (λ x b q k. search (rules, tests))
-    ∙ whole c.args.table.now c.args.registers c.requires
+    position_from_yields_List unused _ _ c.position.result c.position.ensures.ran (YieldsList-from_slice c.args.blocks.now cc) (λ x b q k. search (rules, tests))
+    ∙ whole c.args.blocks.now c.requires

@@ -2,10 +2,9 @@
 -- Assumes nothing.
 use Rattle.std.specs.Prelude.{Option}
 use mathlib.Core.Path.{◌≡◌, refl, ap, ◌∙◌}
-use mathlib.Core.List.{List, ◌++◌, append_assoc}
-use Prim.Native.Nat.{ℕ, ◌-◌, ◌≤◌}
-use borrow.Rule.Slice.PartMut.{put_mid}
-use lib.ListN.{length, take, drop, replicate, length-append, length-replicate}
+use mathlib.Core.List.{List, ◌++◌, append_assoc, append-nil}
+use Prim.Native.Nat.{ℕ, ◌≤◌}
+use lib.ListN.{length, take, replicate, length-append, length-replicate}
 use lib.Seq.{sets, take_at}
 use Rattle.leaf_fields.specs.Stores.{sets_left, sets_right, sets_zeros}
 use Rattle.messages.specs.Message.{given}
@@ -15,12 +14,8 @@ use Rattle.messages.specs.declared.Ballot.{Ballot}
 use Rattle.messages.specs.declared.Lent.{Lent}
 use Rattle.leaf_fields.specs.Fields.{to_le, padded}
 use Rattle.storage_block.specs.Block.{front, body, sealed, image, register}
-use borrow.Author.Rules.{rules}
 use native.Mathlib.Omega.{arith}
 use Rattle.storage_write.proofs.write.Goals as goal
-
-lent_zeros : (b n : List ℕ) → length b ≡ 512 → n ≡ replicate (length b) 0 → take (24 - 0) (drop 0 n) ≡ replicate 24 0
-lent_zeros b n l e = rw (e, l)
 
 short : (s t : List ℕ) → s ≡ t → length t ≤ 256 → length s ≤ 256
 short s t e h = rw e h
@@ -51,21 +46,23 @@ length_front : (k len : ℕ) (seen accepted : Ballot) (value : Option Lent) → 
 unfolding front to_le
 length_front k len seen accepted value = refl
 
-written : (b n₀ f n₃ n₄ n₅ key s bytes : List ℕ) (seen accepted : Ballot) (value : Option Lent) → length b ≡ 512 → n₀ ≡ replicate (length b) 0 → s ≡ bytes_of (given value bytes) → f ≡ front (length key) seen accepted value (length s) → n₃ ≡ sets (put_mid 0 (24 - 0) n₀ f) 24 key → n₄ ≡ sets n₃ 88 s → n₅ ≡ sealed (take 504 n₄) → length key ≤ 64 → length (bytes_of (given value bytes)) ≤ 256 → n₅ ≡ image (register key seen accepted (given value bytes))
+-- the front alone, stored into zeros
+fronted : (f : List ℕ) → length f ≡ 24 → sets (replicate 512 0) 0 f ≡ f ++ replicate 488 0
+unfolding padded
+fronted f lf =
+    let zeros : List ℕ = replicate 24 0 in
+    let whole : padded 24 f ≡ f = rw lf (append-nil f) in
+    sets_left zeros (replicate 488 0) f 0 (omega (arith, length-replicate {A = ℕ} 24 0)) ∙ ap (λ (r : List ℕ). r ++ replicate 488 0) (sets_zeros 24 f (omega arith) ∙ whole)
+
+written : (b n₀ f n₂ n₃ n₄ n₅ key s bytes : List ℕ) (seen accepted : Ballot) (value : Option Lent) → length b ≡ 512 → n₀ ≡ replicate (length b) 0 → s ≡ bytes_of (given value bytes) → f ≡ front (length key) seen accepted value (length s) → n₂ ≡ sets n₀ 0 f → n₃ ≡ sets n₂ 24 key → n₄ ≡ sets n₃ 88 s → n₅ ≡ sealed (take 504 n₄) → length key ≤ 64 → length (bytes_of (given value bytes)) ≤ 256 → n₅ ≡ image (register key seen accepted (given value bytes))
 unfolding image body
-written b n₀ f n₃ n₄ n₅ key s bytes seen accepted value l e₀ es ef e₃ e₄ e₅ hk hv =
+written b n₀ f n₂ n₃ n₄ n₅ key s bytes seen accepted value l e₀ es ef e₂ e₃ e₄ e₅ hk hv =
     let lf : length f ≡ 24 = ap length ef ∙ length_front (length key) (length s) seen accepted value in
     let zeros : n₀ ≡ replicate 512 0 = e₀ ∙ ap (λ (n : ℕ). replicate n 0) l in
-    let placed : put_mid 0 (24 - 0) n₀ f ≡ f ++ replicate 488 0 = ap (λ (r : List ℕ). put_mid 0 24 r f) zeros in
+    let placed : n₂ ≡ f ++ replicate 488 0 = e₂ ∙ ap (λ (r : List ℕ). sets r 0 f) zeros ∙ fronted f lf in
     let whole : take 504 n₄ ≡ f ++ (padded 64 key ++ padded 416 s) =
     ap (take 504) (e₄ ∙ ap (λ (r : List ℕ). sets r 88 s) (e₃ ∙ ap (λ (r : List ℕ). sets r 24 key) placed)) ∙ filled f key s lf hk (short s (bytes_of (given value bytes)) es hv) in
     e₅ ∙ ap sealed (whole ∙ rw (marked-given value bytes, ef, es))
-
-pub write_front-requires : goal.write_front-requires
-write_front-requires c = (search lent_zeros, search rules, search short)
-
-pub copy-requires-2 : goal.copy-requires-2
-copy-requires-2 c = omega (arith, short _ _ c.present-stored.ensures c.requires.1)
 
 pub returns : goal.returns
 returns c = search written depth 12

@@ -1,24 +1,16 @@
 -- `proposer_area::places::note_promise` meets its contract: the lent part is the place, and its front decides whether the promise is taken over.
 -- Assumes nothing.
-use Rattle.std.specs.Prelude.{Option, None}
-use Rattle.std.proofs.Common.{◌≡◌, Bool, true, false, List, ℕ, Some, length, ◌<◌, ◌≤◌, ◌∙◌, ap, sym, leb-true, arith}
+use Rattle.std.proofs.Common.{◌≡◌, Bool, true, false, List, ℕ, Some, length, ◌<◌, ◌∙◌, ap, sym}
 use Rattle.messages.specs.declared.Ballot.{Ballot}
-use Rattle.messages.specs.declared.Lent.{Lent}
 use Rattle.messages.specs.Ballots.{above}
 use Rattle.messages.specs.Message.{given}
-use Rattle.messages.specs.Limits.{option_fits}
-use Rattle.messages.specs.Answers.{bytes_of}
 use Rattle.proposer_rules.specs.State.{with_yes}
 use Rattle.proposer_place.specs.declared.front.Front.{Front}
 use Rattle.proposer_place.specs.Area.{place_image, read_pending}
 use Rattle.proposer_place.specs.Front.{front_of, Used}
 use Rattle.proposer_area.specs.Places.{place_in}
-use Rattle.proposer_area.specs.PlaceLent.{lent_has, place_worked}
+use Rattle.proposer_area.specs.PlaceLent.{used_room, lent_has, place_worked}
 use Rattle.proposer_area.proofs.places.note_promise.Goals as goal
-
-short_value : (mark : Option Lent) (v : List ℕ) → option_fits (given mark v) ≡ true → length (bytes_of (given mark v)) ≤ 256
-short_value None v h = omega arith
-short_value (Some mark) v h = leb-true (length v) 256 h
 
 -- the front has the highest promised
 by_front : (b : List ℕ) (f : Front) (accepted : Ballot) (r t : Bool) → f ≡ front_of (read_pending b) → r ≡ above accepted f.promised → r ≡ t → above accepted (read_pending b).promised ≡ t
@@ -27,18 +19,18 @@ by_front b f accepted r t e er h = sym (er ∙ ap (λ (g : Front). above accepte
 
 pub note_yes-requires : goal.note_yes-requires
 note_yes-requires c =
-    (lent_has Used c.args.area.now c.args.i c.place-else-above.result c.place-else-above.ensures c.requires.1, lent_has (λ (b : List ℕ). length (read_pending b).acks_from < 15) c.args.area.now c.args.i c.place-else-above.result c.place-else-above.ensures c.requires.3)
+    (lent_has Used c.args.area.now c.args.i c.place-else-above.result c.place-else-above.ensures c.requires.0, lent_has (λ (b : List ℕ). length (read_pending b).acks_from < 15) c.args.area.now c.args.i c.place-else-above.result c.place-else-above.ensures c.requires.2)
 
 pub note_promise-requires : goal.note_promise-requires
 note_promise-requires c =
-    (lent_has Used c.args.area.now c.args.i c.place.result c.place.ensures c.requires.1, lent_has (λ (b : List ℕ). length (read_pending b).acks_from < 15) c.args.area.now c.args.i c.place.result c.place.ensures c.requires.3, short_value c.args.mark c.args.value.now c.requires.4)
+    (lent_has Used c.args.area.now c.args.i c.place.result c.place.ensures c.requires.0, lent_has (λ (b : List ℕ). length (read_pending b).acks_from < 15) c.args.area.now c.args.i c.place.result c.place.ensures c.requires.2)
 
 pub returns-then-above : goal.returns-then-above
 returns-then-above c =
-    rw (by_front (place_in c.args.area.now c.args.i) c.args.f c.args.accepted c.above.result true c.requires.2 c.above.ensures c.if-above.true)
-    (place_worked (λ (b : List ℕ). place_image (Some (with_yes (read_pending b) c.args.from c.args.accepted (given c.args.mark c.args.value.now)))) c.args.area.now c.note_promise.new.b c.args.i c.place.result c.place.ensures c.requires.0 c.note_promise.auto.b c.note_promise.ensures)
+    rw (by_front (place_in c.args.area.now c.args.i) c.args.f c.args.accepted.ballot c.above.result true c.requires.1 c.above.ensures c.if-above.true)
+    (place_worked (λ (b : List ℕ). place_image (Some (with_yes (read_pending b) c.args.from c.args.accepted.ballot (given c.args.accepted.mark c.args.accepted.bytes.now)))) c.args.area.now c.note_promise.new.b c.args.i c.place.result c.place.ensures (used_room c.args.area.now c.args.i c.requires.0) c.note_promise.auto.b c.note_promise.ensures)
 
 pub returns-else-above : goal.returns-else-above
 returns-else-above c =
-    rw (by_front (place_in c.args.area.now c.args.i) c.args.f c.args.accepted c.above.result false c.requires.2 c.above.ensures c.if-above.false)
-    (place_worked (λ (b : List ℕ). place_image (Some (with_yes (read_pending b) c.args.from (read_pending b).promised (read_pending b).value))) c.args.area.now c.note_yes.new.b c.args.i c.place-else-above.result c.place-else-above.ensures c.requires.0 c.note_yes.auto.b c.note_yes.ensures)
+    rw (by_front (place_in c.args.area.now c.args.i) c.args.f c.args.accepted.ballot c.above.result false c.requires.1 c.above.ensures c.if-above.false)
+    (place_worked (λ (b : List ℕ). place_image (Some (with_yes (read_pending b) c.args.from (read_pending b).promised (read_pending b).value))) c.args.area.now c.note_yes.new.b c.args.i c.place-else-above.result c.place-else-above.ensures (used_room c.args.area.now c.args.i c.requires.0) c.note_yes.auto.b c.note_yes.ensures)

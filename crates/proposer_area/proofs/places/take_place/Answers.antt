@@ -1,22 +1,10 @@
 -- `proposer_area::places::take_place` meets its contract: the lent part is the place.
 -- Assumes nothing.
-use Rattle.std.proofs.Common.{rules, List, ℕ, ◌∙◌, ap, arith}
+use Rattle.std.proofs.Common.{rules, List, ℕ, ◌∙◌, ap}
 use Rattle.proposer_place.specs.Area.{read_pending}
 use Rattle.proposer_place.specs.Front.{front_of}
 use Rattle.proposer_area.specs.PlaceLent.{lent_is}
-use Rattle.proposer_area.specs.HeldLaws.{place_room}
-use Rattle.proposer_area.specs.Turns.{sized_of}
 use Rattle.proposer_area.proofs.places.take_place.Goals as goal
-
-pub place-requires : goal.place-requires
-place-requires c =
-    let size = sized_of _ _ c.args.area.now.held.sized in
-    omega (arith, c.requires, size.most)
-
-pub slice_bounds-take-end-2 : goal.slice_bounds-take-end-2
-slice_bounds-take-end-2 c =
-    let room = place_room _ _ _ c.args.area.now.held.sized c.requires in
-    search rules
 
 pub returns : goal.returns
 returns c =

@@ -1,18 +1,14 @@
 -- `proposer_area::search::find` meets its contract: the first chunk that passes the test.
 -- Assumes nothing.
-use Rattle.std.proofs.Common.{rules, tests, ◌≡◌, not, ◌&&◌, eqb, arith, ◌∙◌}
+use Rattle.std.proofs.Common.{rules, tests, ◌≡◌, not, ◌&&◌, eqb, ◌∙◌}
 use Rattle.std.proofs.lemmas.Iterator.{YieldsList-from_slice}
 use Rattle.std.proofs.lemmas.Iterator.Search.{position_from_yields_List}
 use Rattle.leaf_fields.specs.Fields.{byte}
 use Rattle.proposer_rules.specs.Rules.{is_ballot}
 use Rattle.proposer_place.specs.Area.{read_pending, read_area}
 use Rattle.proposer_area.specs.Places.{places_in}
-use Rattle.proposer_area.specs.Turns.{sized_of}
 use Rattle.proposer_area.specs.Chunks.{chunks_all, place_by}
 use Rattle.proposer_area.proofs.search.find.Goals as goal
-
-pub places_in-requires : goal.places_in-requires
-places_in-requires c = omega (arith, (sized_of _ _ c.args.area.now.held.sized).bytes)
 
 pub returns : goal.returns
 unfolding read_area

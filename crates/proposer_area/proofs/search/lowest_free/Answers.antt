@@ -1,17 +1,13 @@
 -- `proposer_area::search::lowest_free` meets its contract: the first free chunk.
 -- Assumes nothing.
-use Rattle.std.proofs.Common.{rules, tests, ◌≡◌, eqb, arith, ◌∙◌}
+use Rattle.std.proofs.Common.{rules, tests, ◌≡◌, eqb, ◌∙◌}
 use Rattle.std.proofs.lemmas.Iterator.{YieldsList-from_slice}
 use Rattle.std.proofs.lemmas.Iterator.Search.{position_from_yields_List}
 use Rattle.leaf_fields.specs.Fields.{byte}
 use Rattle.proposer_place.specs.Area.{read_area}
 use Rattle.proposer_area.specs.Places.{places_in}
-use Rattle.proposer_area.specs.Turns.{sized_of}
 use Rattle.proposer_area.specs.Chunks.{chunks_all, free_by}
 use Rattle.proposer_area.proofs.search.lowest_free.Goals as goal
-
-pub places_in-requires : goal.places_in-requires
-places_in-requires c = omega (arith, (sized_of _ _ c.args.area.now.held.sized).bytes)
 
 pub returns : goal.returns
 unfolding read_area

@@ -54,7 +54,8 @@ unfolding Bytes
 bytes_of b h = h
 
 pub write-requires : goal.write-requires
-write-requires c = (search rules, search rules, search waited_short, search yes_short, search no_short, search key_short, search values_short, search promised_short)
+write-requires c =
+    (search rules, search rules, record { waited = search waited_short; yes = search yes_short; no = search no_short; key = search key_short; values = search values_short; promised = search promised_short })
 
 pub returns : goal.returns
 returns c =

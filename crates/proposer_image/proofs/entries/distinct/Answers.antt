@@ -6,7 +6,7 @@ use Rattle.std.proofs.lemmas.Iterator.Consumers.{YieldsList-from_enumerate, Yiel
 use Rattle.std.proofs.lemmas.Iterator.Search.{all_from_yields_List}
 use Rattle.leaf_fields.specs.Fields.{from_le, part}
 use Rattle.proposer_rules.specs.State.{listed}
-use Rattle.proposer_area.specs.Entries.{numbers}
+use Rattle.proposer_place.specs.Rows.{numbers}
 use Rattle.proposer_image.specs.Each.{distinct_entries}
 use Rattle.proposer_image.proofs.entries.distinct.Goals as goal
 

@@ -5,7 +5,7 @@ use Rattle.std.proofs.lemmas.Iterator.{YieldsList-from_slice}
 use Rattle.std.proofs.lemmas.Iterator.Search.{all_from_yields_List}
 use Rattle.leaf_fields.specs.Fields.{from_le, part}
 use Rattle.proposer_rules.specs.State.{listed}
-use Rattle.proposer_area.specs.Entries.{numbers}
+use Rattle.proposer_place.specs.Rows.{numbers}
 use Rattle.proposer_image.specs.Good.{is_wanted}
 use Rattle.proposer_image.specs.Each.{each_entry}
 use Rattle.proposer_image.proofs.entries.each_listed.Goals as goal

@@ -12,7 +12,7 @@ use Rattle.proposer_place.specs.declared.front.Front.{Front}
 use Rattle.proposer_rules.specs.State.{with_no}
 use Rattle.proposer_place.specs.Area.{place_image, read_pending}
 use Rattle.proposer_place.specs.Front.{front_of, front_bytes, Small, Used}
-use Rattle.proposer_place.specs.PlaceRows.{one_more_no, front_no, no_added, used_length, few_noes, room_no, room_front}
+use Rattle.proposer_place.specs.PlaceRows.{one_more_no, front_no, no_added, few_noes, room_front}
 use native.Mathlib.Omega.{arith}
 use Rattle.proposer_place.proofs.rows.note_no.Goals as goal
 
@@ -28,12 +28,6 @@ noted b n₁ n₂ f from u few e e₁ e₂ =
     ∙ ap (λ (r : List ℕ). sets r 0 (front_bytes (one_more_no (front_of p)))) (e₁ ∙ ap (λ (g : Front). sets b (112 + 2 * g.nacks_from) (to_le 2 from.0)) e ∙ ap (λ (r : List ℕ). sets r at (to_le 2 from.0)) u.image)
     ∙ ap (sets (sets (place_image (Some p)) at (to_le 2 from.0)) 0) (front_no p from)
     ∙ no_added p u.lawful from few
-
-pub take-f-requires : goal.take-f-requires
-take-f-requires c = search used_length
-
-pub write-requires : goal.write-requires
-write-requires c = search room_no
 
 pub put-requires : goal.put-requires
 put-requires c = (search room_front, search small depth 9)

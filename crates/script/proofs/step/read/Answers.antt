@@ -7,6 +7,7 @@ use Rattle.script_words.specs.declared.words.Words.{Words}
 use Rattle.script_words.specs.Text.{bytes_of, list_of}
 use Rattle.script_words.specs.Split.{nth, words_of, word_at, Split}
 use Rattle.script_words.specs.Written.{written, behind}
+use Rattle.script_words.specs.LentLaws.{length-written}
 use Rattle.script_message.specs.declared.places.Places.{Places}
 use Rattle.script.specs.declared.step.Step.{Step}
 use Rattle.script.specs.Steps.{step_in, step_words, word_in}
@@ -20,10 +21,6 @@ step_read line words s parts f =
     f
     ∙ ap (λ (ws : ℕ → List ℕ). cond (is_passed line) Step.Pass (unwrap_or (step_in ws words.n) Step.Unreadable)) w
     ∙ ap (λ (n : ℕ). cond (is_passed line) Step.Pass (unwrap_or (step_in (nth (words_of line)) n) Step.Unreadable)) parts.count
-
-length_written : (out : List ℕ) (at : ℕ) (text : List ℕ) → length (written out at text) ≡ length out
-unfolding written
-length_written out at text = length-sets out at text
 
 read_in : (line bytes first second stored list numbers key value other entries : List ℕ) (words : Words) (s : Step) (p : Places) (k v o n : ℕ)
     → Split line words → s ≡ cond (is_passed line) Step.Pass (unwrap_or (step_in (word_at words) words.n) Step.Unreadable) → p ≡ step_words s
@@ -45,9 +42,9 @@ read_in line bytes first second stored list numbers key value other entries word
     let lv : length (bytes_of value) ≡ length (value_of line) = ap length hv in
     let lo : length (bytes_of other) ≡ length (other_of line) = ap length ho in
     let ll : length (list_of entries) ≡ length (numbers_of line) = ap length hl in
-    let one : length first ≡ length bytes = ap length kb ∙ length_written bytes 0 (bytes_of key) in
-    let two : length second ≡ length first = ap length vb ∙ length_written first k (bytes_of value) in
-    let three : length stored ≡ length second = ap length ob ∙ length_written second v (bytes_of other) in
+    let one : length first ≡ length bytes = ap length kb ∙ length-written bytes (bytes_of key) 0 in
+    let two : length second ≡ length first = ap length vb ∙ length-written first (bytes_of value) k in
+    let three : length stored ≡ length second = ap length ob ∙ length-written second (bytes_of other) v in
     let four : length numbers ≡ length list = ap length lb ∙ length-sets list 0 (list_of entries) in
     record {
       step = is;

@@ -1,6 +1,6 @@
 -- `script_words::words::split` meets its contract: the pieces between the spaces, where none is empty and there are eight at most.
 -- Assumes nothing.
-use Rattle.std.proofs.Common.{rules, tests, arith, ◌≡◌, refl, sym, ◌∙◌, ℕ, zero, suc, ◌+◌, ◌≤◌, ◌<◌, Bool, true, false, not, ◌&&◌, cond, eqb, ltb, leb, ltb-true, ltb-false, le-leb, leb-true, leb-false, Bor, List, [], ◌∷◌, ◌++◌, append_assoc, length, get_or, set, map, take, drop, get_or-set_same, get_or-set_other, replicate, length-set, inl, inr}
+use Rattle.std.proofs.Common.{rules, tests, arith, ◌≡◌, refl, sym, ◌∙◌, ℕ, zero, suc, ◌+◌, ◌≤◌, ◌<◌, Bool, true, false, not, ◌&&◌, cond, eqb, ltb, leb, ltb-true, ltb-false, le-leb, leb-true, leb-false, Bor, List, [], ◌∷◌, ◌++◌, append_assoc, length, get_or, set, map, take, drop, get_or-set_same, get_or-set_other, length-set, inl, inr}
 use native.Mathlib.Decide.{ℕ_discrete}
 use Rattle.std.proofs.Math.Dec.{leb-suc-suc}
 use Rattle.std.proofs.Math.ListN.{get_or-eq_default}
@@ -110,14 +110,6 @@ all_of line r most n passed each =
 
 here : (ps : List (List ℕ)) (k n : ℕ) (w : List ℕ) → (k < length ps) × (w ≡ get_or ps k w) → n ≡ k → (n < length ps) × (w ≡ nth ps n)
 here ps k n w t e = rw e (t.0, get_or_read ps k w t.0 t.1 [])
-
-nothing : (n i : ℕ) → nth (replicate n []) i ≡ []
-nothing zero i = refl
-nothing (suc n) zero = refl
-nothing (suc n) (suc i) = nothing n i
-
-pub loop-word-init : goal.loop-word-init
-loop-word-init c = record { size = refl; most = omega arith; count = refl; passed = refl; each = nothing 8 }
 
 pub returns-then-is_empty : goal.returns-then-is_empty
 returns-then-is_empty c =
