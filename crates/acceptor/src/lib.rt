@@ -1,4 +1,5 @@
-// The crate's acceptor.rs over a lent table. acceptor_rules/specs/Rules.antt has 01's section line by line, specs/Contract.antt what of it is promised.
+// The crate's acceptor.rs over a lent table. acceptor_rules/specs/Rules.antt has 01's section line by line, specs/Contract.antt what of it
+// is promised.
 #![tactic(auto)]
 
 ghost use Rattle.std.specs.Prelude.{◌≡◌, true, ◌+◌, ◌*◌, ◌≤◌, length};
@@ -17,6 +18,13 @@ use storage_search::Found;
 
 // The answer area: the value that an answer to a proposal carries.
 pub const ANSWER: usize = VALUE_MOST;
+
+// A message that is for the acceptor; its key and bytes stay with it.
+#[derive(Clone, Copy)]
+enum Job {
+    Proposal(Ballot),
+    Acceptance(Ballot, Option<Lent>),
+}
 
 // A proposal on block i of the table: that block alone is lent on, as storage's `set_at` does and says why there is no one function for it.
 fn propose_at(
@@ -37,7 +45,7 @@ fn propose_at(
     acceptor_work::propose_in(b, from, ballot, key, area)
 }
 
-// An acceptance on block i of the table: that block alone is lent on.
+// An acceptance on block i of the table, in the same lines as `propose_at`: the reason stands at storage's `set_at`.
 fn accept_at(
     table: &mut [u8],
     i: usize,
@@ -75,9 +83,11 @@ pub fn receive(
         Ok(blocks) => blocks,
         Err(refusal) => return Answer::Refused(refusal),
     };
-    if !matches!(message.rpc, Rpc::ProposeReq(_) | Rpc::AcceptReq(_, _)) {
-        return Answer::Refused(Refusal::WrongKind);
-    }
+    let job = match message.rpc {
+        Rpc::ProposeReq(ballot) => Job::Proposal(ballot),
+        Rpc::AcceptReq(ballot, o) => Job::Acceptance(ballot, o),
+        _ => return Answer::Refused(Refusal::WrongKind),
+    };
     // the block that has the key or takes it
     let block = match storage_search::locate(blocks, message.key) {
         Found::At(i) | Found::Free(i) => Some(i),
@@ -87,10 +97,10 @@ pub fn receive(
     if !message.fits(from) {
         return Answer::Refused(Refusal::OverLimit);
     }
-    match (message.rpc, block) {
-        (Rpc::ProposeReq(ballot), Some(i)) => propose_at(table, i, from, ballot, message.key, area),
-        (Rpc::ProposeReq(ballot), None) => acceptor_work::propose_full(from, ballot),
-        (Rpc::AcceptReq(ballot, o), Some(i)) => accept_at(
+    match (job, block) {
+        (Job::Proposal(ballot), Some(i)) => propose_at(table, i, from, ballot, message.key, area),
+        (Job::Proposal(ballot), None) => acceptor_work::propose_full(from, ballot),
+        (Job::Acceptance(ballot, o), Some(i)) => accept_at(
             table,
             i,
             from,
@@ -99,8 +109,7 @@ pub fn receive(
             o,
             message.value,
         ),
-        (Rpc::AcceptReq(_, _), None) => Answer::Refused(Refusal::NoRoom),
-        _ => Answer::Refused(Refusal::WrongKind),
+        (Job::Acceptance(_, _), None) => Answer::Refused(Refusal::NoRoom),
     }
 }
 

@@ -31,12 +31,12 @@ pub fn propose_in(
     let mark = value.and(Some(Lent));
     let len = value.unwrap_or(0);
     let res = if ballot.above(seen) {
+        let bytes = &area[..len];
         let promised = Register {
             key,
             seen: ballot,
             accepted: last,
-            value: mark,
-            bytes: &area[..len],
+            value: value.and(Some(bytes)),
         };
         storage_write::write(b, promised);
         Ok(())
@@ -55,7 +55,8 @@ pub fn propose_in(
     }
 }
 
-// An acceptance on the block that holds its key, or on a free one. Its answer carries no value.
+// An acceptance on the block that holds its key, or on a free one. Its answer carries no value. The value comes as
+// the message has it, a mark and bytes beside it (01, 'bytes beside them'), and is stored as an `Option` of them.
 pub fn accept_in(
     b: &mut [u8; BLOCK],
     from: Address,
@@ -75,8 +76,7 @@ pub fn accept_in(
             key,
             seen: ballot,
             accepted: ballot,
-            value,
-            bytes,
+            value: value.and(Some(bytes)),
         };
         storage_write::write(b, taken);
         Ok(())

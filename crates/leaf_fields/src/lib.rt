@@ -6,11 +6,13 @@ ghost use Rattle.std.proofs.Common.{lit≤};
 ghost use Rattle.std.proofs.lemmas.List.Edits.{sets};
 ghost use Rattle.leaf_fields.specs.Fields.{from_le, to_le, part, all_zero, same};
 
-// The number in the n bytes at `at`, the lowest first.
+// The number in the n bytes at `at`, the lowest first. No `from_le_bytes`, which has one width, a type's: n is any, up to 8.
 pub fn get(s: &[u8], at: usize, n: usize) -> u64
     requires { (n ≤ 8) × (at + n ≤ length s.now) }
     ensures { (result ≡ from_le (part s.now at n)) × (result < 256 ^ n) }
 {
+    // by the bytes' numbers: the invariant is the number in the bytes from i on, and over an iterator it would have to say which are
+    // left of it
     let mut x: u64 = 0;
     for i in (0..n).rev() {
         x = x * 256 + s[at + i] as u64;
@@ -18,11 +20,12 @@ pub fn get(s: &[u8], at: usize, n: usize) -> u64
     x
 }
 
-// The n lowest bytes of x, stored at `at`.
+// The n lowest bytes of x, stored at `at`. No `to_le_bytes`, for the same reason.
 pub fn put(d: &mut [u8], at: usize, n: usize, x: u64)
     requires { at + n ≤ length d.old }
     ensures { d.new ≡ sets d.old at (to_le n x) }
 {
+    // by the bytes' numbers, as in `get`
     let mut rest = x;
     for i in 0..n {
         d[at + i] = (rest % 256) as u8;

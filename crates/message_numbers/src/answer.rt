@@ -2,12 +2,12 @@
 ghost use Rattle.std.specs.Prelude.{◌≡◌};
 ghost use Rattle.message_numbers.specs.Answers.{answer_numbers, refusal_of, numbers_after};
 
-use super::head::{Head, ZEROS};
+use super::head::Head;
 use messages::Answer;
 
 // The numbers of include/mirkaspel.h: the answer's kind, the addressee, how many entries and rows, the lengths of the value and of the key,
 // and the head of the message. What a kind has no use for is 0.
-#[derive(Clone, Copy)]
+#[derive(Clone, Copy, Default)]
 struct Numbers {
     kind: u64,
     to: u16,
@@ -17,17 +17,6 @@ struct Numbers {
     key_len: usize,
     head: Head,
 }
-
-// The answer that is nothing, which the others begin with.
-const NOTHING: Numbers = Numbers {
-    kind: 0,
-    to: 0,
-    entries: 0,
-    rows: 0,
-    value_len: 0,
-    key_len: 0,
-    head: ZEROS,
-};
 
 impl From<Numbers> for [u64; 14] {
     ghost from_gives = { λ n w. w ≡ answer_numbers n.kind n.to n.entries n.rows n.value_len n.key_len n.head };
@@ -52,7 +41,7 @@ impl From<Numbers> for [u64; 14] {
     }
 }
 
-// The refusal's number, and 0 where the answer is none.
+// The refusal's number, and 0 where the answer is none: include/mirkaspel.h has a refusal as a number, so there is no Option.
 pub fn refusal_of(answer: Answer) -> u8
     ensures { result ≡ refusal_of answer }
 {
@@ -62,18 +51,19 @@ pub fn refusal_of(answer: Answer) -> u8
     }
 }
 
-// The answer's numbers are put into `out`, and its refusal number is handed back: 0 where it is none. A refusal leaves `out` as it was.
+// The answer's numbers are put into `out`, and its refusal number is handed back: 0 where it is none, as include/mirkaspel.h has it. A
+// refusal leaves `out` as it was.
 pub fn hand_back(answer: Answer, out: &mut [u64; 14]) -> u8
     ensures { (result ≡ refusal_of answer) × (out.new ≡ numbers_after out.old answer) }
 {
     let numbers = match answer {
-        Answer::Nothing => NOTHING,
+        Answer::Nothing => Numbers::default(),
         Answer::Message { to, rpc, value_len } => Numbers {
             kind: 1,
             to: to.0,
             value_len,
             head: rpc.into(),
-            ..NOTHING
+            ..Numbers::default()
         },
         Answer::Broadcast {
             rpc,
@@ -86,12 +76,12 @@ pub fn hand_back(answer: Answer, out: &mut [u64; 14]) -> u8
             value_len,
             key_len,
             head: rpc.into(),
-            ..NOTHING
+            ..Numbers::default()
         },
         Answer::Timeouts(rows) => Numbers {
             kind: 3,
             rows,
-            ..NOTHING
+            ..Numbers::default()
         },
         Answer::Refused(r) => return r.number(),
     };

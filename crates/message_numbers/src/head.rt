@@ -15,7 +15,7 @@ use messages::{Ballot, Error, Incoming, Lent, Req, Rpc};
 
 // The numbers of include/mirkaspel.h: the kinds are 1 to 8 in the order of Rpc, the requests 1 to 4 in that of Req, the results 0 for Ok and
 // 1 to 4 for the errors in their order. A number that a kind has no use for is not looked at, and is 0 in an answer.
-#[derive(Clone, Copy, PartialEq, Eq)]
+#[derive(Clone, Copy, PartialEq, Eq, Default)]
 pub struct Head {
     pub kind: u64,
     // a client's id, or the ballot
@@ -31,32 +31,21 @@ pub struct Head {
     pub last: u64,
 }
 
-// The head of no message, which the others begin with.
-pub const ZEROS: Head = Head {
-    kind: 0,
-    number: 0,
-    request: 0,
-    value: 0,
-    other: 0,
-    accepted: 0,
-    result: 0,
-    last: 0,
-};
-
 // The head that eight numbers are.
 impl From<[u64; 8]> for Head {
     ghost from_gives = { λ m h. h ≡ head_in m };
 
     fn from(m: [u64; 8]) -> Head {
+        let [kind, number, request, value, other, accepted, result, last] = m;
         Head {
-            kind: m[0],
-            number: m[1],
-            request: m[2],
-            value: m[3],
-            other: m[4],
-            accepted: m[5],
-            result: m[6],
-            last: m[7],
+            kind,
+            number,
+            request,
+            value,
+            other,
+            accepted,
+            result,
+            last,
         }
     }
 }
@@ -201,27 +190,33 @@ impl From<Rpc> for Head {
                     request,
                     value,
                     other,
-                    ..ZEROS
+                    ..Head::default()
                 }
             }
             Rpc::ClientResponse(id, Ok(o)) => Head {
                 kind: 2,
                 number: id,
                 value: Lent::mark(o).into(),
-                ..ZEROS
+                ..Head::default()
             },
             Rpc::ClientResponse(id, Err(e)) => Head {
                 kind: 2,
                 number: id,
-                ..ZEROS
+                ..Head::default()
             }
             .with_result(Err(e)),
-            Rpc::SetAcceptAcceptors => Head { kind: 3, ..ZEROS },
-            Rpc::SetProposeAcceptors => Head { kind: 4, ..ZEROS },
+            Rpc::SetAcceptAcceptors => Head {
+                kind: 3,
+                ..Head::default()
+            },
+            Rpc::SetProposeAcceptors => Head {
+                kind: 4,
+                ..Head::default()
+            },
             Rpc::ProposeReq(b) => Head {
                 kind: 5,
                 number: b.0,
-                ..ZEROS
+                ..Head::default()
             },
             Rpc::ProposeRes {
                 req_ballot,
@@ -233,19 +228,19 @@ impl From<Rpc> for Head {
                 number: req_ballot.0,
                 value: Lent::mark(last_accepted_value).into(),
                 accepted: last_accepted_ballot.0,
-                ..ZEROS
+                ..Head::default()
             }
             .with_result(res),
             Rpc::AcceptReq(b, o) => Head {
                 kind: 7,
                 number: b.0,
                 value: Lent::mark(o).into(),
-                ..ZEROS
+                ..Head::default()
             },
             Rpc::AcceptRes(b, res) => Head {
                 kind: 8,
                 number: b.0,
-                ..ZEROS
+                ..Head::default()
             }
             .with_result(res),
         }

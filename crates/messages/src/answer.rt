@@ -68,7 +68,8 @@ pub enum Refusal {
 }
 
 impl Refusal {
-    // 01's number.
+    // 01's number, as README.md (`r.number()`) and the definition `number` name it, and the C interface hands it out; so a method and no
+    // `From`.
     pub fn number(self) -> u8
         ensures { result ≡ number self }
     {

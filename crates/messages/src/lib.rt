@@ -37,7 +37,8 @@ pub struct Place(pub usize);
 pub struct Ballot(pub u64);
 
 impl Ballot {
-    // The one comparison of ballots, whether this one is above the other, under the name by which every rule cites it (specs/Ballots.antt).
+    // Whether this ballot is above the other: the comparison of every rule, under the name by which they cite it
+    // (specs/Ballots.antt). The derived order is the same, for what takes a key.
     pub fn above(self, other: Ballot) -> bool
         ensures { result ≡ above self other }
     {

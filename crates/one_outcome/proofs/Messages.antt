@@ -2,6 +2,8 @@
 -- Assumes nothing.
 use mathlib.Core.Path.{◌≡◌, sym, ◌∙◌}
 use Rattle.messages.proofs.Ballot.above.Reads as above-reads
+use Rattle.messages.proofs.Lent.mark.Reads as mark-reads
+use Rattle.messages.proofs.Lent.of_mark.Reads as of-mark-reads
 use Rattle.messages.proofs.Error.is_rejected_accept.Reads as rejected-accept-reads
 use Rattle.messages.proofs.Error.is_rejected_proposal.Reads as rejected-proposal-reads
 use Rattle.messages.proofs.Error.is_timeout.Reads as timed-out-reads
@@ -17,6 +19,12 @@ use Rattle.messages.proofs.present.Reads as present-reads
 
 pub above_once : (κs : _) (args : _) (r s : _) (e f : _) → above-reads.Post κs args r e → above-reads.Post κs args s f → r ≡ s
 above_once κs args r s e f p q = p ∙ sym q
+
+pub mark_once : (κs : _) (args : _) (r s : _) (e f : _) → mark-reads.Post κs args r e → mark-reads.Post κs args s f → r ≡ s
+mark_once κs args r s e f p q = p ∙ sym q
+
+pub of_mark_once : (κs : _) (args : _) (r s : _) (e f : _) → of-mark-reads.Post κs args r e → of-mark-reads.Post κs args s f → r ≡ s
+of_mark_once κs args r s e f p q = p ∙ sym q
 
 pub rejected_accept_once : (κs : _) (args : _) (r s : _) (e f : _) → rejected-accept-reads.Post κs args r e → rejected-accept-reads.Post κs args s f → r ≡ s
 rejected_accept_once κs args r s e f p q = p ∙ sym q

@@ -26,6 +26,10 @@ use proposer_area::Area;
 use proposer_place::Accepted;
 use proposer_request::Order;
 
+// `area` and `places` are two parameters in `start`, `refused`, `receive` and `tick`: 01 and the C interface take both, and where they do
+// not fit that is refusal 1 or 2. Behind that test `Area` has both. The length of the answer area, refusal 1 too, is required beside an
+// `Area`: what is lent from the area is put into the answer area, so a type of both would be taken apart again (proposer_rounds).
+
 // The start: counter 0, nothing pending, and one given list as both lists. Refusals are 1 and 4.
 #[tactic(auto, unfolding(crate::specs::Contract::start_on))]
 pub fn start(area: &mut [u8], places: usize, timeout: u64, list: &[u16]) -> Answer
@@ -41,9 +45,10 @@ pub fn start(area: &mut [u8], places: usize, timeout: u64, list: &[u16]) -> Answ
     Answer::Nothing
 }
 
-// Refusal 1 or 2, where it is due to what is lent: an area of that many places, and an answer area. Tried: a function that answers the `Area`
-// or the refusal; its caller is told what becomes of the area by an `ensures*` (`RestsIfErr`), which the check proves only of a body that hands
-// on a field or a call's result (`lent_spec` stayed open).
+// Refusal 1 or 2, where it is due to what is lent: an area of that many places, and an answer area. Tried: a function that answers the
+// `Area` or the refusal; its caller is told what becomes of the area by an `ensures*` (`RestsIfErr`), which the check proves only of a body
+// that hands on a field or a call's result (`lent_spec` stayed open). An `Option`, as `first_due` of its clause is one: of a `Result` the
+// callers, which answer an `Answer`, would hand the refusal on by the same `if let`.
 #[tactic(auto, using(std::proofs::lemmas::Bool::Decides::nat_tests), unfolding(proposer_place::specs::Area::sized))]
 fn refused(area: &[u8], places: usize, answer: &[u8]) -> Option<Refusal>
     ensures { result ≡ first_due (area_tests area.now places answer.now) }
@@ -79,7 +84,8 @@ pub fn receive(
     work(&mut area, from, at, message, answer)
 }
 
-// The refusal of a message that is over the limits: a wrong kind ranks before them.
+// The refusal of a message that is over the limits: a wrong kind ranks before them. The three kinds stand in the match of `work` too, where
+// each of the others has an arm of its own.
 fn over_limit(rpc: Rpc) -> Refusal
     ensures { (k v u l : List ℕ) → result ≡ cond (foreign (message_of rpc k v u l)) Refusal.WrongKind Refusal.OverLimit }
 {
@@ -89,7 +95,7 @@ fn over_limit(rpc: Rpc) -> Refusal
     }
 }
 
-// The same on an area that is an image.
+// The same on an area that is an image. That its state may be lent is required, and no ghost field of `Area`, as in proposer_promise.
 #[tactic(auto, unfolding(proposer_rules::specs::Rules::receive, messages::specs::Limits::within_limits))]
 fn work(area: &mut Area<'_>, from: Address, at: u64, message: Incoming, answer: &mut [u8]) -> Answer
     requires { (length answer.old ≡ answer_bytes area.old.places) × (may_be_lent (state area.old) ≡ true) }

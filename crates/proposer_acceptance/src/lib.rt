@@ -31,6 +31,9 @@ fn response(change: Change) -> Result<Option<Lent>, Error>
     Ok(new)
 }
 
+// The length of the answer area is required beside the area, as in proposer_rounds, and what place i holds beside `area` and `i`, as in
+// proposer_works.
+
 // The request at place i is settled: it is dropped and its client told.
 fn settle(area: &mut Area<'_>, i: usize, answer: &mut [u8]) -> Answer
     requires { (length answer.old ≡ answer_bytes area.old.places) × HasPending area.old i }
@@ -69,13 +72,14 @@ fn turned_down(area: &mut Area<'_>, i: usize, from: Address, last: Ballot) -> An
     requires { MayAsk area.old i }
     ensures { (w : List ℕ) → WorkedOn area.old w (acceptance_work (state area.old) (pending area.old i) from (Verdict.Denied (Failure.AcceptRejected last))) result area.new w }
 {
-    match noted(area, i, from, last) {
-        Some(counter) => drop_with(area, i, counter, Error::AcceptRejected { last }),
-        None => Answer::Nothing,
-    }
+    let Some(counter) = noted(area, i, from, last) else {
+        return Answer::Nothing;
+    };
+    drop_with(area, i, counter, Error::AcceptRejected { last })
 }
 
-// An answer to an accept request, within the limits.
+// An answer to an accept request, within the limits. That the state may be lent is required, and the head is not one function with that of
+// `promise`: the reasons stand there (proposer_promise).
 pub fn acceptance(
     area: &mut Area<'_>,
     from: Address,
@@ -90,7 +94,7 @@ pub fn acceptance(
         return Answer::Nothing;
     };
     let request = proposer_works::request_at(area, i);
-    if let Phase::Propose = request.front.phase {
+    if request.front.phase == Phase::Propose {
         return Answer::Refused(Refusal::FirstPhase);
     }
     if let Some(refusal) = request.refused(from) {
@@ -98,6 +102,7 @@ pub fn acceptance(
     }
     match res {
         Ok(_) => taken(area, i, from, answer),
+        // no nested pattern: it tells the arms behind it nothing (docs/PROVING.md), and the last needs that the error is another
         Err(e) => match e {
             Error::AcceptRejected { last } => turned_down(area, i, from, last),
             Error::ProposalRejected { .. } | Error::CasFailed(_) | Error::Timeout => {

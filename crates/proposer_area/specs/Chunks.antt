@@ -1,10 +1,10 @@
 -- The places of an area as chunks of it: how many, where each stands, and what is read of them.
 -- Assumes nothing.
-use Rattle.std.specs.Prelude.{◌≡◌, refl, Bool, true, false, cond, not, ◌&&◌, List, [], ◌∷◌, map, length, drop}
+use Rattle.std.specs.Prelude.{◌≡◌, refl, Bool, true, false, cond, not, ◌&&◌, List, [], ◌∷◌, map, length, get_or, take, drop}
 use Rattle.std.proofs.Common.{ap, sym, ◌∙◌, drop-drop, eqb, ltb-true, ltb-false}
 use lib.Dec.{ltb}
 use Rattle.std.proofs.lemmas.List.Sums.{prefix_len-le-length}
-use Prim.Native.Nat.{ℕ, zero, suc, ◌+◌, ◌≤◌, ◌<◌}
+use Prim.Native.Nat.{ℕ, zero, suc, ◌+◌, ◌*◌, ◌≤◌, ◌<◌}
 use native.Mathlib.Omega.{arith}
 use Rattle.std.specs.Simd.{first_chunks}
 use Rattle.std.specs.List.{list_any, position, position_or_len}
@@ -14,7 +14,7 @@ use Rattle.messages.specs.declared.Ballot.{Ballot}
 use Rattle.proposer_rules.specs.Rules.{is_ballot}
 use Rattle.proposer_rules.specs.State.{Pending, listed}
 use Rattle.proposer_place.specs.Area.{header_bytes, place_bytes, area_bytes, used_at, read_pending, read_place, read_places, ballots_of, sized}
-use Rattle.proposer_area.specs.Places.{places_in, place_of, free_of}
+use Rattle.proposer_area.specs.Places.{place_in, places_in, place_of, free_of}
 use Rattle.proposer_area.specs.Turns.{sized_of, passes, used_passes}
 
 pub length-chunks : (m k : ℕ) (xs : List ℕ) → length (first_chunks m k xs) ≡ k
@@ -98,3 +98,16 @@ free_first (s ∷ l) = free_turn s (map read_place l) (position_or_len (λ s. eq
 
 pub free_by : (a : List ℕ) (n : ℕ) (r : Option ℕ) → r ≡ position (λ s. eqb (byte s used_at) 0) (places_in a n) → MatchOption r (free_of (read_places a header_bytes n) ≡ n) (λ i. (i ≡ free_of (read_places a header_bytes n)) × (i < n))
 free_by a n r e = located (λ s. eqb (byte s used_at) 0) free_of a n r free_first e
+
+-- chunk i of an area's places is place i
+chunk_at : (m k i : ℕ) (xs : List ℕ) → i < k → get_or (first_chunks m k xs) i [] ≡ take m (drop (m * i) xs)
+chunk_at m zero i xs h = absurd (omega (arith, h))
+chunk_at m (suc k) zero xs h =
+    let e : m * 0 ≡ 0 = omega arith in
+    rw e
+chunk_at m (suc k) (suc i) xs h =
+    let e : m + m * i ≡ m * suc i = grind arith in
+    chunk_at m k i (drop m xs) (omega (arith, h)) ∙ ap (take m) (drop-drop (m * i) m xs ∙ ap (λ (j : ℕ). drop j xs) e)
+
+pub place_chunk : (a : List ℕ) (n i : ℕ) → i < n → get_or (places_in a n) i [] ≡ place_in a i
+place_chunk a n i h = chunk_at 976 n i (drop 80 a) h ∙ ap (take 976) (drop-drop (976 * i) 80 a)

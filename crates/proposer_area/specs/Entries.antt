@@ -5,7 +5,7 @@ use Rattle.std.proofs.Common.{ap, sym, ◌∙◌, take-take, drop-drop}
 use Rattle.std.proofs.lemmas.List.{drop-take}
 use Prim.Native.Nat.{ℕ, zero, suc, ◌+◌, ◌-◌, ◌*◌, ◌≤◌}
 use native.Mathlib.Omega.{arith}
-use Rattle.std.specs.List.{list_any}
+use Rattle.std.specs.List.{list_any, flat_map}
 use Rattle.std.specs.Simd.{first_chunks}
 use Rattle.leaf_fields.specs.Fields.{from_le, part}
 use Rattle.messages.specs.Answers.{entries}
@@ -23,6 +23,14 @@ chunks_are (suc n) s at =
 
 pub entries_are : (s : List ℕ) (at n k : ℕ) (l : List (List ℕ)) → at + 2 * n ≤ length s → k ≡ n → l ≡ first_chunks 2 k (take (2 * n) (drop at s)) → numbers l ≡ entries s at n
 entries_are s at n k l room many e = ap numbers (e ∙ ap (λ m. first_chunks 2 m (take (2 * n) (drop at s))) many) ∙ chunks_are n s at
+
+-- the chunks of a part, one behind the other, are the part
+pub chunks_flat : (k : ℕ) (s : List ℕ) → length s ≡ 2 * k → flat_map (λ e. e) (first_chunks 2 k s) ≡ s
+chunks_flat zero [] e = refl
+chunks_flat zero (x ∷ s) e = absurd (omega (arith, e))
+chunks_flat (suc k) [] e = absurd (omega (arith, e))
+chunks_flat (suc k) (x ∷ []) e = absurd (omega (arith, e))
+chunks_flat (suc k) (x ∷ y ∷ s) e = ap (λ r. x ∷ y ∷ r) (chunks_flat k s (omega (arith, e)))
 
 pub listed_entry : (a : ℕ) (l : List (List ℕ)) → list_any (λ e. eqb (from_le (part e 0 2)) a) l ≡ listed a (numbers l)
 unfolding listed

@@ -1,6 +1,6 @@
 -- What holds of an area that is an image: its size, its places, and the area with another counter or another place.
 -- Assumes nothing.
-use Rattle.std.specs.Prelude.{◌≡◌, true, List, [], ℕ, ◌+◌, ◌-◌, ◌*◌, ◌^◌, ◌≤◌, ◌<◌, length, get_or, set, take, drop}
+use Rattle.std.specs.Prelude.{◌≡◌, true, List, [], ℕ, ◌+◌, ◌*◌, ◌^◌, ◌≤◌, ◌<◌, length, get_or, set}
 use Rattle.std.proofs.Math.Path.{refl, sym, ap}
 use Rattle.std.proofs.Common.{subst, ◌∙◌, append-nil, le-leb, eq-eqb}
 use Rattle.std.specs.Prelude.{Option, None}
@@ -120,17 +120,13 @@ module _ (a : List ℕ) (n : ℕ) (held : Held a n) where
   propose_short = omega (arith, propose_count, held.lawful.propose.short)
 
   -- the entries of a list as they are lent
-  pub accept_list_lem : take (accept_list_at + 2 * byte a accept_count_at - accept_list_at) (drop accept_list_at a) ≡ entry_bytes (read_area a n).accept_acceptors
+  pub accept_list_lem : part a accept_list_at (2 * byte a accept_count_at) ≡ entry_bytes (read_area a n).accept_acceptors
   unfolding read_area
-  accept_list_lem =
-      let e : accept_list_at + 2 * byte a accept_count_at - accept_list_at ≡ 2 * byte a accept_count_at = omega arith in
-      ap (λ (k : ℕ). part a accept_list_at k) e ∙ list_at_lem accept_list_at (byte a accept_count_at) (omega (arith, accept_short))
+  accept_list_lem = list_at_lem accept_list_at (byte a accept_count_at) (omega (arith, accept_short))
 
-  pub propose_list_lem : take (propose_list_at + 2 * byte a propose_count_at - propose_list_at) (drop propose_list_at a) ≡ entry_bytes (read_area a n).propose_acceptors
+  pub propose_list_lem : part a propose_list_at (2 * byte a propose_count_at) ≡ entry_bytes (read_area a n).propose_acceptors
   unfolding read_area
-  propose_list_lem =
-      let e : propose_list_at + 2 * byte a propose_count_at - propose_list_at ≡ 2 * byte a propose_count_at = omega arith in
-      ap (λ (k : ℕ). part a propose_list_at k) e ∙ list_at_lem propose_list_at (byte a propose_count_at) (omega (arith, propose_short))
+  propose_list_lem = list_at_lem propose_list_at (byte a propose_count_at) (omega (arith, propose_short))
 
   pub counter_is : long_at a counter_at ≡ (read_area a n).counter
   unfolding read_area

@@ -1,6 +1,5 @@
 -- The places of a lent area: where each stands, and which of them a request or a free place is.
 -- Assumes nothing.
-use Rattle.std.specs.declared.ops.Range.{Range}
 use Rattle.std.specs.Simd.{first_chunks}
 use Rattle.std.specs.Prelude.{drop, cond, List, [], ◌∷◌, ℕ, suc, ◌+◌, ◌*◌}
 use Rattle.std.specs.Prelude.{Option, None, Some}
@@ -18,9 +17,6 @@ place_at i = header_bytes + place_bytes * i
 
 abbrev pub place_in : List ℕ → ℕ → List ℕ
 place_in a i = part a (place_at i) place_bytes
-
-abbrev pub place_range : ℕ → Range ℕ
-place_range i = record { start = place_at i; end = place_at i + place_bytes }
 
 -- the n places, each as its bytes
 abbrev pub places_in : List ℕ → ℕ → List (List ℕ)

@@ -1,17 +1,15 @@
--- The size of an area, the part of it that is a place, and what a place's test says of it.
+-- The size of an area, and what a place's test says of it.
 -- Assumes nothing.
 use Rattle.std.specs.Prelude.{◌≡◌, refl, Bool, true, false, not, cond, ◌&&◌, List, eqb, leb, length}
 use Rattle.std.proofs.Common.{ap, eqb-true, leb-true}
 use Rattle.std.proofs.lemmas.Bool.{false≢true}
 use Rattle.std.specs.Prelude.{Option, None, Some}
-use Prim.Native.Nat.{ℕ, zero, suc, ◌+◌, ◌-◌, ◌*◌, ◌≤◌}
-use native.Mathlib.Omega.{arith}
-use Rattle.leaf_fields.specs.Fields.{span, byte}
+use Prim.Native.Nat.{ℕ, zero, suc, ◌+◌, ◌≤◌}
+use Rattle.leaf_fields.specs.Fields.{byte}
 use Rattle.leaf_fields.specs.Laws.{and_true}
 use Rattle.messages.specs.Limits.{pending_most}
 use Rattle.proposer_rules.specs.State.{Pending}
 use Rattle.proposer_place.specs.Area.{used_at, place_bytes, area_bytes, read_pending, read_place, read_places, sized}
-use Rattle.proposer_area.specs.Places.{place_at, place_in}
 
 -- ---- places
 
@@ -33,15 +31,6 @@ pub length_read : (a : List ℕ) (at n : ℕ) → length (read_places a at n) �
 unfolding read_places
 length_read a at zero = refl
 length_read a at (suc n) = ap suc (length_read a (at + place_bytes) n)
-
--- the part that a turn lends
-abbrev pub lent_place : List ℕ → ℕ → List ℕ
-lent_place a i = span a (place_at i) (place_at i + place_bytes)
-
-pub lent_place_lem : (a : List ℕ) (i : ℕ) → lent_place a i ≡ place_in a i
-lent_place_lem a i =
-    let e : 80 + 976 * i + 976 - (80 + 976 * i) ≡ 976 = omega arith in
-    rw e
 
 -- ---- tests of a place
 

@@ -1,5 +1,6 @@
 // Lists of addresses: two bytes an entry.
 ghost use Rattle.std.specs.Prelude.{◌≡◌, ◌+◌, ◌*◌, ◌≤◌, length};
+ghost use Rattle.std.specs.List.{flat_map};
 ghost use Rattle.leaf_fields.specs.Fields.{from_le, part};
 ghost use Rattle.messages.specs.Answers.{entries};
 ghost use Rattle.proposer_rules.specs.State.{listed};
@@ -8,7 +9,7 @@ ghost use Rattle.proposer_place.specs.Rows.{numbers};
 // The n entries at `at`, each as its bytes.
 pub fn list(s: &[u8], at: usize, n: usize) -> &[[u8; 2]]
     requires { at + 2 * n ≤ length s.now }
-    ensures { (numbers result.now ≡ entries s.now at n) × (length result.now ≡ n) }
+    ensures { (numbers result.now ≡ entries s.now at n) × (length result.now ≡ n) × (flat_map (λ e. e) result.now ≡ part s.now at (2 * n)) }
 {
     s[at..at + 2 * n].as_chunks().0
 }

@@ -38,7 +38,8 @@ pub struct Header {
     pub propose: usize,
 }
 
-// The header, taken out.
+// The header, taken out. That there is room for one is a clause here and of `places_in`, and no fact of a type: of what is lent nothing is
+// known but its size when refusal 2 is tested. `put_counter` asks for no more than that room, though its callers have an `Area`.
 pub fn take_header(area: &[u8]) -> Header
     requires { header_bytes ≤ length area.now }
     ensures { (result ≡ header_in area.now) × (result.accept < 256) × (result.propose < 256) }
@@ -59,7 +60,8 @@ pub fn put_counter(area: &mut [u8], counter: u64)
     leaf_fields::write(area, 0, counter);
 }
 
-// Whether the area has the size for its places, 1 to 32.
+// Whether the area has the size for its places, 1 to 32. The public operations are lent the two side by side and refuse them by this test
+// (01, refusal 1).
 #[tactic(auto, using(std::proofs::lemmas::Bool::Decides::nat_tests), unfolding(proposer_place::specs::Area::sized))]
 pub fn is_sized(area: &[u8], places: usize) -> bool
     ensures { result ≡ sized area.now places }

@@ -16,13 +16,12 @@ ghost use Rattle.proposer_place.specs.Area.{
 ghost use Rattle.proposer_place.specs.Front.{front_of, rows_image, Small, Used, Fit};
 ghost use Rattle.proposer_place.specs.Rows.{numbers};
 ghost use Rattle.proposer_area.specs.State.{pending};
-ghost use Rattle.proposer_area.specs.Places.{place_at, place_in, place_range, places_in};
+ghost use Rattle.proposer_area.specs.Places.{place_at, place_in, places_in};
 
 use super::HEADER;
 use super::area::Area;
 use messages::{Address, Ballot};
 use proposer_place::{Accepted, Front, PLACE, Rows};
-use std::ops::Range;
 
 // The places, each as its bytes.
 pub fn places_in(area: &[u8]) -> &[[u8; PLACE]]
@@ -32,17 +31,17 @@ pub fn places_in(area: &[u8]) -> &[[u8; PLACE]]
     area[HEADER..].as_chunks().0
 }
 
-// Where place i stands.
-fn place(i: usize) -> Range<usize>
+// Where place i begins.
+fn start(i: usize) -> usize
     requires { place_at i + place_bytes < 2 ^ 64 }
-    ensures { result ≡ place_range i }
+    ensures { result ≡ place_at i }
 {
-    let at = HEADER + PLACE * i;
-    at..at + PLACE
+    HEADER + PLACE * i
 }
 
-// What follows lends place i on to `proposer_place`. A function that hands out the place itself as a `&mut [u8]` would need an `ensures*`,
-// which the check proves of a field or of a call's result, and of no part of a slice.
+// What follows lends place i on to `proposer_place` as its array, in the same lines each time. A function that hands out the place itself
+// was tried (`place_mut(area, i) -> &mut [u8]`): its `ensures*` is proved only of a body that hands on a field or a call's result, and of
+// no part of a slice.
 
 // The front of place i, taken out.
 #[tactic(auto, using(crate::specs::HeldLaws::place_room))]
@@ -50,7 +49,7 @@ pub fn take_place(area: &Area<'_>, i: usize) -> Front
     requires { i < area.now.places }
     ensures { (result ≡ front_of (pending area.now i)) × (Small result) × (result.first_len + result.second_len ≤ 768) × (result.value_len ≤ 256) }
 {
-    proposer_place::take(&area.bytes[place(i)])
+    proposer_place::take(&places_in(&area.bytes)[i])
 }
 
 // Place i made free.
@@ -58,7 +57,11 @@ pub fn drop_place(area: &mut [u8], i: usize)
     requires { place_at i + place_bytes ≤ length area.old }
     ensures { area.new ≡ sets area.old (place_at i) (place_image None) }
 {
-    leaf_fields::clear(&mut area[place(i)]);
+    let (_, rest) = area.split_at_mut(start(i));
+    let Some(b) = rest.first_chunk_mut::<PLACE>() else {
+        unreachable!()
+    };
+    leaf_fields::clear(b);
 }
 
 // A new request at place i, which is free: its front and its rows.
@@ -67,19 +70,27 @@ pub fn fill_place(area: &mut [u8], i: usize, f: Front, rows: Rows)
     requires { (place_in area.old i ≡ place_image None) × (Small f) × (Fit rows) }
     ensures { area.new ≡ sets area.old (place_at i) (rows_image f rows.entry) }
 {
-    proposer_place::write(&mut area[place(i)], f, rows);
+    let (_, rest) = area.split_at_mut(start(i));
+    let Some(b) = rest.first_chunk_mut() else {
+        unreachable!()
+    };
+    proposer_place::write(b, f, rows);
 }
 
 // That place i is used is a clause of the five functions below: an `Area` says that each of its places is good, and not which of them are
 // used, so on an `Area` they would have a clause too.
 
-// One more no at place i.
+// One more no at place i. Why `note_yes` has the same shape stands in proposer_place/src/rows.rt.
 #[tactic(auto, using(crate::specs::PlaceLent::used_room))]
 pub fn note_no(area: &mut [u8], i: usize, from: Address)
     requires { (Used (place_in area.old i)) × (length (read_pending (place_in area.old i)).nacks_from < list_most) }
     ensures { area.new ≡ sets area.old (place_at i) (place_image (Some (with_no (read_pending (place_in area.old i)) from))) }
 {
-    proposer_place::note_no(&mut area[place(i)], from);
+    let (_, rest) = area.split_at_mut(start(i));
+    let Some(b) = rest.first_chunk_mut() else {
+        unreachable!()
+    };
+    proposer_place::note_no(b, from);
 }
 
 // One more yes at place i; the promise stays as it was.
@@ -88,7 +99,11 @@ pub fn note_yes(area: &mut [u8], i: usize, from: Address)
     requires { (Used (place_in area.old i)) × (length (read_pending (place_in area.old i)).acks_from < list_most) }
     ensures { area.new ≡ sets area.old (place_at i) (place_image (Some (with_yes (read_pending (place_in area.old i)) from (read_pending (place_in area.old i)).promised (read_pending (place_in area.old i)).value))) }
 {
-    proposer_place::note_yes(&mut area[place(i)], from);
+    let (_, rest) = area.split_at_mut(start(i));
+    let Some(b) = rest.first_chunk_mut() else {
+        unreachable!()
+    };
+    proposer_place::note_yes(b, from);
 }
 
 // One more yes at place i, whose front is f; the promise is taken over if its ballot is above the highest promised.
@@ -97,10 +112,14 @@ pub fn note_promise(area: &mut [u8], i: usize, f: Front, from: Address, accepted
     requires { (Used (place_in area.old i)) × (f ≡ front_of (read_pending (place_in area.old i))) × (length (read_pending (place_in area.old i)).acks_from < list_most) }
     ensures { area.new ≡ sets area.old (place_at i) (place_image (Some (promised_by (read_pending (place_in area.old i)) from accepted.entry.ballot (given accepted.entry.mark accepted.entry.bytes.now)))) }
 {
+    let (_, rest) = area.split_at_mut(start(i));
+    let Some(b) = rest.first_chunk_mut() else {
+        unreachable!()
+    };
     if accepted.ballot.above(f.promised) {
-        proposer_place::note_promise(&mut area[place(i)], from, accepted);
+        proposer_place::note_promise(b, from, accepted);
     } else {
-        proposer_place::note_yes(&mut area[place(i)], from);
+        proposer_place::note_yes(b, from);
     }
 }
 
@@ -110,7 +129,11 @@ pub fn second_phase(area: &mut [u8], i: usize, list: &[[u8; 2]])
     requires { (Used (place_in area.old i)) × (length list.now ≤ list_most) }
     ensures { area.new ≡ sets area.old (place_at i) (place_image (Some (second_phase (numbers list.now) (read_pending (place_in area.old i))))) }
 {
-    proposer_place::second_phase(&mut area[place(i)], list);
+    let (_, rest) = area.split_at_mut(start(i));
+    let Some(b) = rest.first_chunk_mut() else {
+        unreachable!()
+    };
+    proposer_place::second_phase(b, list);
 }
 
 // The request at place i anew at a ballot: the entries of the list are waited for.
@@ -119,5 +142,9 @@ pub fn again(area: &mut [u8], i: usize, ballot: Ballot, list: &[[u8; 2]])
     requires { (Used (place_in area.old i)) × (length list.now ≤ list_most) }
     ensures { area.new ≡ sets area.old (place_at i) (place_image (Some (asked_again ballot (numbers list.now) (read_pending (place_in area.old i))))) }
 {
-    proposer_place::again(&mut area[place(i)], ballot, list);
+    let (_, rest) = area.split_at_mut(start(i));
+    let Some(b) = rest.first_chunk_mut() else {
+        unreachable!()
+    };
+    proposer_place::again(b, ballot, list);
 }

@@ -35,7 +35,8 @@ pub fn find(area: &Area<'_>, ballot: Ballot) -> Option<usize>
     places_in(&area.bytes).iter().position(|b| holds(b, ballot))
 }
 
-// The lowest free place.
+// The lowest free place. Tried with `proposer_place::is_free` itself in the closure's place: the contract of `call_mut`, of a function of
+// another crate, is not admitted.
 #[tactic(auto, using(crate::specs::Turns::sized_of))]
 pub fn lowest_free(area: &Area<'_>) -> Option<usize>
     ensures { MatchOption result (free_of (state area.now).places ≡ area.now.places) (λ i. (i ≡ free_of (state area.now).places) × (i < area.now.places)) }

@@ -21,10 +21,12 @@ pub fn majority(n: usize) -> usize
 #[derive(Clone, Copy)]
 pub struct Change<'a> {
     pub req: Req,
-    // the value of a `Set`; of a `Cas` the old value's `split` bytes, then the new value
+    // the value of a `Set`; of a `Cas` the old value's `split` bytes, then the new value. One row and no two slices: `applied_in`, which
+    // the public functions promise, reads it so by `request_in` of the rules (docs/DECISIONS.md)
     pub request: &'a [u8],
     pub split: usize,
-    // whether there is a promised value, and its bytes, lent beside it as those of a message are (01, 'bytes beside them')
+    // whether there is a promised value, and its bytes: a mark beside them, as a place has them, and as 01's form has the new value
+    // ('none marked beside it', docs/PROMISES.md)
     pub mark: Option<Lent>,
     pub promised: &'a [u8],
 }
@@ -69,7 +71,7 @@ impl<'a> Change<'a> {
         ensures { result.now ≡ bytes_of (applied_in self.entry).value }
     {
         match self.req {
-            Req::Del => &self.request[..0],
+            Req::Del => &[],
             Req::Set => self.request,
             Req::Cas { old, new } if self.expected(old) => {
                 let end = self.split.min(self.request.len());

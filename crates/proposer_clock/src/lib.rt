@@ -25,7 +25,9 @@ fn put_row(answer: &mut [u8], k: usize, client: Address, id: u64)
     leaf_fields::write(answer, at + 2, id);
 }
 
-// Drops every request over time, the one with the lowest ballot first; how many they are.
+// Drops every request over time, the one with the lowest ballot first; how many they are. A `for` and no chain: each turn changes the area
+// and drops one request, so there are at most as many turns as places, and the turn that finds none is the count. The length of the answer
+// area is required beside the area, as in proposer_rounds.
 fn expire(area: &mut Area<'_>, t: u64, answer: &mut [u8]) -> usize
     requires { length answer.old ≡ answer_bytes area.old.places }
     ensures { (result ≡ length (late_ones (state area.old) t (state area.old).places)) × Becomes area.old area.new (moved (state area.old) (state area.old).counter (in_time (state area.old) t (state area.old).places)) × (answer.new ≡ sets answer.old rows_at (rows_bytes (rows_of (late_ones (state area.old) t (state area.old).places)))) }

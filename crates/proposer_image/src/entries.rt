@@ -24,7 +24,7 @@ pub fn each_listed(list: &[[u8; 2]], others: &[[u8; 2]], wanted: bool) -> bool
         .all(|entry| listed(others, address(entry)) == wanted)
 }
 
-// Whether no entry stands twice.
+// Whether no entry stands twice. `ballots_distinct` in lib.rt says why it has this chain again.
 pub fn distinct(list: &[[u8; 2]]) -> bool
     ensures { result ≡ distinct (numbers list.now) }
 {

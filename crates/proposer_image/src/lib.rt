@@ -27,7 +27,8 @@ use messages::{KEY_MOST, LIST_MOST, VALUE_MOST};
 use proposer_area::{ACCEPT_LIST, HEADER, PROPOSE_LIST, held, list, places_in, take_header};
 use proposer_place::{Front, KEY, NO, PLACE, PROMISED, Rows, VALUES, WAITED, YES};
 
-// The header: two lists within the limits, and zeros behind them.
+// The header: two lists within the limits, and zeros behind them. A list is read as entries (`list`), and what stands
+// behind it as bytes (a range).
 #[tactic(auto, unfolding(crate::specs::Good::header_good))]
 fn header_good(area: &[u8]) -> bool
     requires { header_bytes ≤ length area.now }
@@ -46,7 +47,8 @@ fn header_good(area: &[u8]) -> bool
         && none_zero(list(area, PROPOSE_LIST, h.propose))
 }
 
-// A used place that is read: its bytes, and the front that was taken out of them.
+// A used place that is read: its bytes, and the front that was taken out of them. No `Request` of proposer_works, whose methods rest on
+// `Used`: a place is read here to find out whether it is an image.
 #[derive(Drop)]
 struct Read<'a> {
     bytes: &'a [u8; PLACE],
@@ -160,7 +162,8 @@ fn places_good(places: &[[u8; PLACE]], counter: u64) -> bool
     places.iter().all(|b| place_good(b, counter))
 }
 
-// No two pending requests have one ballot.
+// No two pending requests have one ballot. The chain is that of `distinct` in entries.rt, over other things: as one function it would take
+// the test as a closure, and each caller would still write it, for these three lines.
 fn ballots_distinct(places: &[[u8; PLACE]]) -> bool
     ensures { result ≡ Area.distinct (ballots_of (map read_place places.now)) }
 {
@@ -169,7 +172,8 @@ fn ballots_distinct(places: &[[u8; PLACE]]) -> bool
     })
 }
 
-// Whether the area is the image of a state that may be lent, with as many places as it has the size for.
+// Whether the area is the image of a state that may be lent, with as many places as it has the size for. That there is room for a header is
+// a clause, as in proposer_area, and no `Area`: whether it may be one is what is tested.
 pub fn is_image(area: &[u8]) -> bool
     requires { header_bytes ≤ length area.now }
     ensures { (n : ℕ) → sized area.now n ≡ true → result ≡ is_image area.now n }

@@ -33,7 +33,9 @@ const TIMEOUT: usize = 8;
 // The bytes of a list's row.
 const ROW: usize = 2 * LIST_MOST;
 
-// A list's row of 30 bytes: two bytes an entry, unused ones zero.
+// A list's row of 30 bytes: two bytes an entry, unused ones zero. That a list is within the limits is a clause throughout, and no fact of a
+// type: a message's limits are tested in one place, and such a list would be made in three places of proposer and taken apart here. Tried
+// for the loop: `d.chunks_exact_mut(2).zip(list)`, where `returns` stayed open: nothing told what d is when the chunks have come back.
 fn write_row(d: &mut [u8], list: &[u16])
     requires { (length d.old ≡ list_bytes) × (length list.now ≤ list_most) }
     ensures { d.new ≡ list_row list.now }
@@ -69,7 +71,8 @@ pub fn set_propose(area: &mut Area<'_>, list: &[u16])
     put_list(area.bytes, PROPOSE, list);
 }
 
-// The image of the start.
+// The image of the start, in any bytes of the right size. `start` is lent the area and its places side by side and refuses them (01,
+// refusal 1), and before this there is no `Area`.
 pub fn begin(area: &mut [u8], places: usize, timeout: u64, list: &[u16])
     requires { (sized area.old places ≡ true) × (list_fits list.now ≡ true) }
     ensures { area.new ≡ area_image (start timeout list.now places) }

@@ -1,8 +1,8 @@
 -- A place as rows: what a store into one row makes of it, what the stores of a message make of the image of a request, and a whole place written on zeros.
 -- Assumes nothing.
-use Rattle.std.specs.Prelude.{◌≡◌, refl}
+use Rattle.std.specs.Prelude.{◌≡◌, refl, true, None}
 use Rattle.std.proofs.Math.Path.{sym, ap}
-use Rattle.std.proofs.Common.{◌∙◌, arith, subst, length-append}
+use Rattle.std.proofs.Common.{◌∙◌, arith, length-append, leb-true}
 use mathlib.Core.List.{List, [], ◌∷◌, ◌++◌, append_assoc, append-nil}
 use Rattle.std.specs.Prelude.{Option, Some}
 use Prim.Native.Nat.{ℕ, ◌+◌, ◌-◌, ◌*◌, ◌≤◌, ◌<◌}
@@ -11,23 +11,24 @@ use Rattle.std.proofs.Math.ListN.{length, replicate}
 use Rattle.std.proofs.lemmas.List.Edits.{sets}
 use Rattle.std.proofs.Math.Seq.{length-sets}
 use Rattle.leaf_fields.specs.Stores.{sets_left, sets_right, sets_whole, sets_zeros, padded_more, put_middle}
-use Rattle.leaf_fields.specs.Fields.{to_le, part, Bytes, padded}
-use Rattle.leaf_fields.specs.Laws.{length-to_le, bytes_part, part_same, part_after}
+use Rattle.leaf_fields.specs.Fields.{to_le, padded}
+use Rattle.leaf_fields.specs.Laws.{length-to_le}
 use Rattle.messages.specs.declared.Address.{Address}
 use Rattle.messages.specs.declared.Ballot.{Ballot}
 use Rattle.messages.specs.declared.Lent.{Lent}
 use Rattle.messages.specs.Message.{Value, given}
 use Rattle.messages.specs.Fit.{marked-given}
-use Rattle.messages.specs.Limits.{key_most, value_most, list_most}
-use Rattle.messages.specs.Answers.{bytes_of, entries, entry_bytes}
+use Rattle.messages.specs.Limits.{key_most, value_most, list_most, option_fits}
+use Rattle.messages.specs.Answers.{bytes_of, entry_bytes}
 use Rattle.proposer_rules.specs.State.{Pending, key_of, with_no, with_yes, second_phase, asked_again}
 use Rattle.proposer_place.specs.Area.{list_bytes, waited_at, yes_at, no_at, key_start, values_at, promised_value_at, place_bytes, values_bytes, list_row, place_front, values_of, place_values, place_rest, place_image, read_pending}
-use Rattle.proposer_place.specs.AreaRows.{length-padded, length_list}
+use Rattle.proposer_place.specs.AreaRows.{length-padded, length_entries, length_list}
 use Rattle.proposer_place.specs.AreaLaws.{Lawful, length_place}
 use Rattle.proposer_place.specs.declared.front.Front.{Front}
-use Rattle.proposer_place.specs.Front.{front_of, front_bytes, with_promise, in_second, anew, place_rows, Used}
+use Rattle.proposer_place.specs.declared.rows.Rows.{Rows}
+use Rattle.proposer_place.specs.Front.{front_of, front_bytes, with_promise, in_second, anew, place_rows, rows_image, Fit, Used}
 use Rattle.proposer_place.specs.FrontLaws.{front_bytes_lem, length-front_bytes}
-use Rattle.proposer_place.specs.Rows.{entries-length, list_more, entries_whole}
+use Rattle.proposer_place.specs.Rows.{list_more}
 
 -- ---- a place as rows that are full
 
@@ -285,45 +286,48 @@ module _ (p : Pending) (ok : Lawful p) where
       ∙ sym (image_rows p')
 
   -- the lists cleared, and a list written there
-  module _ (l : List ℕ) (m : ℕ) (full : length l ≡ 2 * m) (few : m ≤ list_most) (bytes : Bytes l) where
+  module _ (l : List ℕ) (few : length l ≤ list_most) where
     abbrev w' : List ℕ
-    w' = list_row (entries l 0 m)
+    w' = list_row l
+
+    bytes : length (entry_bytes l) ≡ 2 * length l
+    bytes = length_entries l
 
     abbrev z : List ℕ
     z = replicate list_bytes 0
 
-    list_row_lem : sets z 0 l ≡ w'
+    list_row_lem : sets z 0 (entry_bytes l) ≡ w'
     unfolding list_row
-    list_row_lem = sets_zeros list_bytes l (omega arith) ∙ ap (padded list_bytes) (sym (entries_whole l m full bytes))
+    list_row_lem = sets_zeros list_bytes (entry_bytes l) (omega (arith, bytes))
 
     list_sized : length w' ≡ list_bytes
-    list_sized = length_list (entries l 0 m) (omega (arith, entries-length l 0 m))
+    list_sized = length_list l few
 
-    pub second_entered : sets (sets (put_mid waited_at 90 (place_image (Some p)) (replicate 90 0)) waited_at l) 0 (place_front (second_phase (entries l 0 m) p)) ≡ place_image (Some (second_phase (entries l 0 m) p))
+    pub second_entered : sets (sets (put_mid waited_at 90 (place_image (Some p)) (replicate 90 0)) waited_at (entry_bytes l)) 0 (place_front (second_phase l p)) ≡ place_image (Some (second_phase l p))
     second_entered =
-        let p' = second_phase (entries l 0 m) p in
+        let p' = second_phase l p in
         let g = place_front p' in
         let s₀ : Sized f z z z k v promised_row = record { front = size.front; waited = refl; yeses = refl; noes = refl; key = size.key; values = size.values; promised = size.promised } in
         let s₁ : Sized f w' z z k v promised_row = record { front = size.front; waited = list_sized; yeses = refl; noes = refl; key = size.key; values = size.values; promised = size.promised } in
-        ap (λ (r : List ℕ). sets (sets (put_mid waited_at 90 r (replicate 90 0)) waited_at l) 0 g) (image_rows p)
-        ∙ ap (λ (r : List ℕ). sets (sets r waited_at l) 0 g) (cleared_lists f w y n k v promised_row size)
-        ∙ ap (λ (r : List ℕ). sets r 0 g) (into_waited f z z z k v promised_row s₀ l waited_at 0 refl (omega arith) ∙ ap (λ (r : List ℕ). full_rows f r z z k v promised_row) list_row_lem)
+        ap (λ (r : List ℕ). sets (sets (put_mid waited_at 90 r (replicate 90 0)) waited_at (entry_bytes l)) 0 g) (image_rows p)
+        ∙ ap (λ (r : List ℕ). sets (sets r waited_at (entry_bytes l)) 0 g) (cleared_lists f w y n k v promised_row size)
+        ∙ ap (λ (r : List ℕ). sets r 0 g) (into_waited f z z z k v promised_row s₀ (entry_bytes l) waited_at 0 refl (omega (arith, bytes)) ∙ ap (λ (r : List ℕ). full_rows f r z z k v promised_row) list_row_lem)
         ∙ into_front f w' z z k v promised_row s₁ g (length-place_front p')
         ∙ ap (λ (r : List ℕ). full_rows g w' r r k v promised_row) (sym nobody)
         ∙ sym (image_rows p')
 
-    pub again_entered : (b : Ballot) → sets (sets (put_mid promised_value_at 256 (put_mid waited_at 90 (place_image (Some p)) (replicate 90 0)) (replicate 256 0)) waited_at l) 0 (place_front (asked_again b (entries l 0 m) p)) ≡ place_image (Some (asked_again b (entries l 0 m) p))
+    pub again_entered : (b : Ballot) → sets (sets (put_mid promised_value_at 256 (put_mid waited_at 90 (place_image (Some p)) (replicate 90 0)) (replicate 256 0)) waited_at (entry_bytes l)) 0 (place_front (asked_again b l p)) ≡ place_image (Some (asked_again b l p))
     again_entered b =
-        let p' = asked_again b (entries l 0 m) p in
+        let p' = asked_again b l p in
         let g = place_front p' in
         let zeros : List ℕ = replicate value_most 0 in
         let s₀ : Sized f z z z k v promised_row = record { front = size.front; waited = refl; yeses = refl; noes = refl; key = size.key; values = size.values; promised = size.promised } in
         let s₁ : Sized f z z z k v zeros = record { front = size.front; waited = refl; yeses = refl; noes = refl; key = size.key; values = size.values; promised = refl } in
         let s₂ : Sized f w' z z k v zeros = record { front = size.front; waited = list_sized; yeses = refl; noes = refl; key = size.key; values = size.values; promised = refl } in
-        ap (λ (r : List ℕ). sets (sets (put_mid promised_value_at 256 (put_mid waited_at 90 r (replicate 90 0)) zeros) waited_at l) 0 g) (image_rows p)
-        ∙ ap (λ (r : List ℕ). sets (sets (put_mid promised_value_at 256 r zeros) waited_at l) 0 g) (cleared_lists f w y n k v promised_row size)
-        ∙ ap (λ (r : List ℕ). sets (sets r waited_at l) 0 g) (cleared_promised f z z z k v promised_row s₀)
-        ∙ ap (λ (r : List ℕ). sets r 0 g) (into_waited f z z z k v zeros s₁ l waited_at 0 refl (omega arith) ∙ ap (λ (r : List ℕ). full_rows f r z z k v zeros) list_row_lem)
+        ap (λ (r : List ℕ). sets (sets (put_mid promised_value_at 256 (put_mid waited_at 90 r (replicate 90 0)) zeros) waited_at (entry_bytes l)) 0 g) (image_rows p)
+        ∙ ap (λ (r : List ℕ). sets (sets (put_mid promised_value_at 256 r zeros) waited_at (entry_bytes l)) 0 g) (cleared_lists f w y n k v promised_row size)
+        ∙ ap (λ (r : List ℕ). sets (sets r waited_at (entry_bytes l)) 0 g) (cleared_promised f z z z k v promised_row s₀)
+        ∙ ap (λ (r : List ℕ). sets r 0 g) (into_waited f z z z k v zeros s₁ (entry_bytes l) waited_at 0 refl (omega (arith, bytes)) ∙ ap (λ (r : List ℕ). full_rows f r z z k v zeros) list_row_lem)
         ∙ into_front f w' z z k v zeros s₂ g (length-place_front p')
         ∙ ap (λ (r : List ℕ). full_rows g w' r r k v zeros) (sym nobody)
         ∙ ap (full_rows g w' (list_row []) (list_row []) k v) (sym nothing_promised)
@@ -353,15 +357,6 @@ room_no b f u e few = omega (arith, used_length b u, few_noes b f e few)
 pub room_yes : (b : List ℕ) (f : Front) → Used b → f ≡ front_of (read_pending b) → length (read_pending b).acks_from < list_most → yes_at + 2 * f.acks_from + 2 ≤ length b
 room_yes b f u e few = omega (arith, used_length b u, few_yeses b f e few)
 
-pub room_front : (b n vs : List ℕ) (at : ℕ) → Used b → n ≡ sets b at vs → waited_at ≤ length n
-room_front b n vs at u e = omega (arith, used_stored b n vs at u e)
-
--- what is stored as the waited-for list is bytes where the place is
-pub bytes_waited : (b l g n₁ n₂ : List ℕ) → waited_at + length l ≤ length b → length g ≡ waited_at → n₁ ≡ sets b waited_at l → n₂ ≡ sets n₁ 0 g → Bytes n₂ → Bytes l
-bytes_waited b l g n₁ n₂ room lg e₁ e₂ h =
-    let at = λ (r : List ℕ). part r waited_at (length l) in
-    subst (λ (r : List ℕ). Bytes r) (ap at e₂ ∙ part_after n₁ 0 g waited_at (length l) (omega arith) ∙ ap at e₁ ∙ part_same b waited_at l room) (bytes_part n₂ waited_at (length l) h)
-
 -- ---- a whole place, written on zeros
 
 sized_padded : (f w y n k v p : List ℕ) → length f ≡ waited_at → length w ≤ list_bytes → length y ≤ list_bytes → length n ≤ list_bytes → length k ≤ key_most → length v ≤ values_bytes → length p ≤ value_most → Sized f (padded list_bytes w) (padded list_bytes y) (padded list_bytes n) (padded key_most k) (padded values_bytes v) (padded value_most p)
@@ -374,6 +369,48 @@ sized_padded f w y n k v p lf lw ly ln lk lv lp = record {
   values = length-padded values_bytes v lv;
   promised = length-padded value_most p lp;
 }
+
+-- a value within the limit fits its row
+pub short_value : (mark : Option Lent) (v : Value) → option_fits (given mark v) ≡ true → length (bytes_of (given mark v)) ≤ value_most
+short_value None v h = omega arith
+short_value (Some mark) v h = leb-true (length v) 256 h
+
+-- ---- what is made of a place is as long as it
+
+length-full : (f w y n k v p : List ℕ) → Sized f w y n k v p → length (full_rows f w y n k v p) ≡ place_bytes
+unfolding full_rows
+length-full f w y n k v p s = simp length-append (omega (arith, s.front, s.waited, s.yeses, s.noes, s.key, s.values, s.promised))
+
+pub length-rows : (f : Front) (r : Rows) → Fit r → length (rows_image f r) ≡ place_bytes
+length-rows f r fit =
+    let values : length (r.first.now ++ r.second.now) ≤ values_bytes = simp length-append fit.values in
+    ap length (rows_padded (front_bytes f) r.waited.now r.yes.now r.no.now r.key.now (r.first.now ++ r.second.now) r.promised.now)
+    ∙ length-full _ _ _ _ _ _ _ (sized_padded _ _ _ _ _ _ _ (length-front_bytes f) fit.waited fit.yes fit.no fit.key values fit.promised)
+
+-- by its rows, of which the request's own are those of a place that is used
+length-used : (b : List ℕ) → Used b → (q : Pending) → q.req ≡ (read_pending b).req → length q.waiting_for ≤ list_most → length q.acks_from ≤ list_most → length q.nacks_from ≤ list_most → length (bytes_of q.value) ≤ value_most → length (place_image (Some q)) ≡ place_bytes
+length-used b u q same lw ly ln lp =
+    let ok = u.lawful in
+    let key : length (key_of q.req) ≤ key_most = rw same ok.key.short in
+    let values : length (values_of q.req) ≤ values_bytes = rw same (simp length-append (omega (arith, ok.first.short, ok.second.short))) in
+    ap length (image_place_rows q ∙ rows_padded _ _ _ _ _ _ _)
+    ∙ length-full _ _ _ _ _ _ _ (sized_padded _ _ _ _ _ _ _ (length-place_front q) (omega (arith, length_entries q.waiting_for)) (omega (arith, length_entries q.acks_from)) (omega (arith, length_entries q.nacks_from)) key values lp)
+
+module _ (b : List ℕ) (u : Used b) where
+  abbrev was : Pending
+  was = read_pending b
+
+  pub length-no : (from : Address) → length was.nacks_from < list_most → length (place_image (Some (with_no was from))) ≡ place_bytes
+  length-no from few = length-used b u (with_no was from) refl u.lawful.waited.short u.lawful.yeses.short (simp length-append (omega arith)) u.lawful.promised.short
+
+  pub length-yes : (from : Address) (ballot : Ballot) (o : Option Value) → length was.acks_from < list_most → length (bytes_of o) ≤ value_most → length (place_image (Some (with_yes was from ballot o))) ≡ place_bytes
+  length-yes from ballot o few short = length-used b u (with_yes was from ballot o) refl u.lawful.waited.short (simp length-append (omega arith)) u.lawful.noes.short short
+
+  pub length-second : (l : List ℕ) → length l ≤ list_most → length (place_image (Some (second_phase l was))) ≡ place_bytes
+  length-second l few = length-used b u (second_phase l was) refl few (omega arith) (omega arith) u.lawful.promised.short
+
+  pub length-again : (ballot : Ballot) (l : List ℕ) → length l ≤ list_most → length (place_image (Some (asked_again ballot l was))) ≡ place_bytes
+  length-again ballot l few = length-used b u (asked_again ballot l was) refl few (omega arith) (omega arith) (omega arith)
 
 module _ (f w y n k v p : List ℕ) (lf : length f ≡ waited_at) (lw : length w ≤ list_bytes) (ly : length y ≤ list_bytes) (ln : length n ≤ list_bytes) (lk : length k ≤ key_most) (lv : length v ≤ values_bytes) (lp : length p ≤ value_most) where
   abbrev all_sized : Sized f (padded list_bytes w) (padded list_bytes y) (padded list_bytes n) (padded key_most k) (padded values_bytes v) (padded value_most p)

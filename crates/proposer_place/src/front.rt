@@ -1,13 +1,10 @@
 // The front of a place, bytes 0 to 51, as a struct by value.
-ghost use Rattle.messages.specs.Message.{of_mark, given};
+ghost use Rattle.messages.specs.Message.{of_mark};
 ghost use Rattle.std.specs.Prelude.{◌≡◌, Bool, cond, ◌||◌, ◌≤◌, ◌<◌, ◌-◌, ◌+◌, min, eqb, length};
 ghost use Rattle.std.proofs.lemmas.List.Edits.{sets};
 ghost use Rattle.leaf_fields.specs.Fields.{byte};
-ghost use Rattle.messages.specs.Answers.{bytes_of};
 ghost use Rattle.proposer_place.specs.Area.{
-  place_bytes,
   used_at,
-  waited_at,
   flag_byte,
   phase_from,
   read_pending,
@@ -29,18 +26,18 @@ ghost use Rattle.proposer_place.specs.Front.{
   Small,
 };
 
-use super::accepted::Accepted;
 use super::{PLACE, PROMISED, VALUES};
 use messages::{Address, Ballot, Lent, Req};
 
 // The first phase asks for promises, the second for acceptances.
-#[derive(Clone, Copy)]
+#[derive(Clone, Copy, PartialEq, Eq)]
 pub enum Phase {
-    Propose,
-    Accept,
+    Propose = 1,
+    Accept = 2,
 }
 
-// A pending request but for its key, values and lists, of which it has the lengths and marks, as bytes 0 to 51 have them.
+// A pending request but for its key, values and lists, of which it has the lengths and marks, as bytes 0 to 51 have them. The counts are of
+// the type of lengths and not bytes: they say how long rows are and are compared with lengths, and as bytes each such use would widen them.
 #[derive(Clone, Copy)]
 pub struct Front {
     pub phase: Phase,
@@ -65,14 +62,14 @@ pub struct Front {
 
 impl Front {
     // One more yes, and its promise taken over.
-    pub fn promised_by(self, accepted: Accepted) -> Front
+    pub fn promised_by(self, promised: Ballot, mark: Option<Lent>, value_len: usize) -> Front
         requires { self.acks_from < 256 }
-        ensures { result ≡ with_promise self accepted.entry.ballot accepted.entry.mark (length (bytes_of (given accepted.entry.mark accepted.entry.bytes.now))) }
+        ensures { result ≡ with_promise self promised mark value_len }
     {
         Front {
-            mark: accepted.mark,
-            value_len: accepted.value().len(),
-            promised: accepted.ballot,
+            mark,
+            value_len,
+            promised,
             acks_from: self.acks_from + 1,
             ..self
         }
@@ -110,6 +107,7 @@ impl Front {
     }
 }
 
+// Every byte but 1 is the second phase, as `phase_from` says.
 impl From<u8> for Phase {
     ghost from_gives = { λ byte phase. phase ≡ phase_of (phase_from byte) };
 
@@ -125,15 +123,13 @@ impl From<Phase> for u8 {
     ghost from_gives = { λ phase byte. byte ≡ phase_code phase };
 
     fn from(phase: Phase) -> u8 {
-        match phase {
-            Phase::Propose => 1,
-            Phase::Accept => 2,
-        }
+        phase as u8
     }
 }
 
-// The request without its bytes, from its kind and the marks of its two values. Bytes of this layout and a type of another crate, so no `From`:
-// this and `kind_code`.
+// The request without its bytes, from its kind and the marks of its two values. Bytes of this layout and a type of another crate, so no
+// `From`: this and `kind_code`. The numbers are those of docs/LAYOUT.md; message_numbers has those of include/mirkaspel.h, a second table
+// that happens to agree.
 fn req_from(kind: u8, first: u8, second: u8) -> Req
     ensures { result ≡ cond (eqb kind 1) Req.Get (cond (eqb kind 2) Req.Del (cond (eqb kind 3) Req.Set (Req.Cas (of_mark first) (of_mark second)))) }
 {
@@ -158,7 +154,8 @@ fn length_from(mark: u8, len: u16, room: usize) -> usize
     }
 }
 
-// The length of a request's first value: `Get` and `Del` have none.
+// The length of a request's first value: `Get` and `Del` have none. The number is matched here again, and not the `Req` that is made of it:
+// the clause then is the row of tests that `read_pending` has, and over a `Req` would need a definition and a law to say the same.
 fn first_from(kind: u8, mark: u8, len: u16) -> usize
     ensures { (result ≡ cond (eqb kind 1) 0 (cond (eqb kind 2) 0 (cond (eqb mark 0) 0 (min len 768)))) × (result ≤ 768) }
 {
@@ -203,8 +200,7 @@ pub fn arrival(b: &[u8; PLACE]) -> u64
 }
 
 // The front of a place, taken out.
-pub fn take(b: &[u8]) -> Front
-    requires { length b.now ≡ place_bytes }
+pub fn take(b: &[u8; PLACE]) -> Front
     ensures { (result ≡ front_of (read_pending b.now)) × (Small result) × (result.first_len + result.second_len ≤ 768) × (result.value_len ≤ 256) }
 {
     let first = first_from(b[3], b[5], leaf_fields::read::<u16>(b, 10));
@@ -252,10 +248,11 @@ fn marks(req: Req) -> (u8, u8)
     }
 }
 
-// The front of a place, put back. `Small` is no ghost field of `Front`: `second_phase` and `again` above take any number of entries, and would
-// have to require that it fits a byte.
-pub fn put(b: &mut [u8], f: Front)
-    requires { (waited_at ≤ length b.old) × (Small f) }
+// The front of a place, put back. `Small` is no ghost field of `Front`: `second_phase` and `again` above are public and take any number of
+// entries, and would have to require that it fits a byte. The three lengths are put by their width: tried with `write` of an `as u16`,
+// where `overflow_cast` stayed open, since `Small` bounds the single bytes alone.
+pub fn put(b: &mut [u8; PLACE], f: Front)
+    requires { Small f }
     ensures { b.new ≡ sets b.old 0 (front_bytes f) }
 {
     let (first, second) = marks(f.req);

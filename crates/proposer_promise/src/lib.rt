@@ -13,7 +13,10 @@ use messages::{Address, Answer, Ballot, Error, Refusal};
 use proposer_area::Area;
 use proposer_place::{Accepted, Phase};
 use proposer_rounds::{propose_again, to_accept};
-use proposer_works::{COUNTER_MOST, drop_with, noted, short_of};
+use proposer_works::{drop_with, noted, short_of};
+
+// The length of the answer area is required beside the area, as in proposer_rounds, and what place i holds beside `area` and `i`, as in
+// proposer_works.
 
 // An Ok promise from one who is waited for and has not answered.
 fn granted(
@@ -50,14 +53,19 @@ fn rejected(area: &mut Area<'_>, i: usize, from: Address, last: Ballot, answer: 
     if f.retried {
         return drop_with(area, i, counter, Error::ProposalRejected { last });
     }
-    if counter == COUNTER_MOST {
+    let Some(next) = counter.checked_add(1) else {
         return Answer::Refused(Refusal::CounterUsedUp);
-    }
-    propose_again(area, i, counter, answer)
+    };
+    propose_again(area, i, Ballot(next), answer)
 }
 
-// An answer to a proposal, within the limits. That the state may be lent is required, and no ghost field of `Area`: a retry stores its place
-// and then the counter, and between the two its ballot is above the counter.
+// An answer to a proposal, within the limits. That the state may be lent is required, and no ghost field of `Area`: that the ballots are
+// distinct and none is above the counter is a law of all places together, which proposer/specs/Stays.antt has for a whole message. A field
+// would have to show it at each store of one place, where `Held` asks for a law of that place alone (`place_held` of proposer_area).
+
+// The head, down to `refused`, is `acceptance`'s too (proposer_acceptance), but for the test of the phase in the midst of it: here another
+// phase is answered with nothing, there with a refusal. One function would take the phase and that answer, and give an i or an `Answer`,
+// which each caller would take apart again.
 pub fn promise(
     area: &mut Area<'_>,
     from: Address,
@@ -73,7 +81,7 @@ pub fn promise(
         return Answer::Nothing;
     };
     let request = proposer_works::request_at(area, i);
-    if let Phase::Accept = request.front.phase {
+    if request.front.phase == Phase::Accept {
         return Answer::Nothing;
     }
     if let Some(refusal) = request.refused(from) {
@@ -81,6 +89,7 @@ pub fn promise(
     }
     match res {
         Ok(_) => granted(area, i, from, accepted, answer),
+        // no nested pattern: it tells the arms behind it nothing (docs/PROVING.md), and the last needs that the error is another
         Err(e) => match e {
             Error::ProposalRejected { last } => rejected(area, i, from, last, answer),
             Error::AcceptRejected { .. } | Error::CasFailed(_) | Error::Timeout => {

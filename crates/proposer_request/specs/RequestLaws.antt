@@ -38,7 +38,7 @@ use Rattle.proposer_area.specs.declared.Header.{Header}
 use Rattle.proposer_area.specs.Places.{place_at, header_in, free_of}
 use Rattle.proposer_area.specs.PlacesLaws.{free_some, free_none}
 use Rattle.proposer_area.specs.Held.{Held}
-use Rattle.proposer_area.specs.HeldLaws.{with_both, propose_count, propose_list_lem, place_held}
+use Rattle.proposer_area.specs.HeldLaws.{with_both, propose_count, place_held}
 use Rattle.proposer_works.specs.Works.{answer_bytes, Worked}
 use Rattle.proposer_works.specs.WorksLaws.{refused_work, due_none}
 use Rattle.proposer_works.specs.Sent.{sent_in, told_in, sent_written, sent_told, sent_list}
@@ -138,7 +138,7 @@ module _ (a w : List ℕ) (n : ℕ) (h : Header) (from : Address) (at id : ℕ) 
   pending = asked s s.counter from id rq at false
 
   abbrev list : List ℕ
-  list = take (50 + 2 * h.propose - 50) (drop 50 a)
+  list = entry_bytes s.propose_acceptors
 
   counter_here : h.counter ≡ s.counter
   counter_here = counter_there a w n h from at id rq held eh
@@ -146,15 +146,11 @@ module _ (a w : List ℕ) (n : ℕ) (h : Header) (from : Address) (at id : ℕ) 
   propose_here : h.propose ≡ length s.propose_acceptors
   propose_here = ap (λ (g : Header). g.propose) eh ∙ propose_count a n held
 
-  list_here : list ≡ entry_bytes s.propose_acceptors
-  list_here = ap (λ (g : Header). take (50 + 2 * g.propose - 50) (drop 50 a)) eh ∙ propose_list_lem a n held
-
   -- the entries that were just sent are the waited-for list
   waited_here : take (320 + 2 * h.propose - 320) (drop 320 (sent_in w [] key list)) ≡ entry_bytes s.propose_acceptors
   waited_here =
-      sent_list w [] key list h.propose (ap length list_here ∙ length_entries s.propose_acceptors ∙ ap (λ (k : ℕ). 2 * k) (sym propose_here))
+      sent_list w [] key list h.propose (length_entries s.propose_acceptors ∙ ap (λ (k : ℕ). 2 * k) (sym propose_here))
       (omega (arith, propose_here, held.lawful.propose.short)) (omega (arith, size))
-      ∙ list_here
 
   lawful_here : ((j : ℕ) → byte key j < 256) → ((j : ℕ) → byte value j < 256) → ((j : ℕ) → byte other j < 256) → from.0 < 2 ^ 16 → id < 2 ^ 64 → at < 2 ^ 64 → s.counter + 1 < 2 ^ 64 → Lawful pending
   unfolding Bytes
@@ -189,7 +185,7 @@ module _ (a w : List ℕ) (n : ℕ) (h : Header) (from : Address) (at id : ℕ) 
       let asking : Message = Message.ProposeReq (next_ballot s.counter) (key_of rq) in
       let next : h.counter + 1 ≡ s.counter + 1 = ap (λ (c : ℕ). c + 1) counter_here in
       let sent : told_in (Rpc.ProposeReq (record { 0 = h.counter + 1 })) [] key list ≡ told_in (rpc_of asking) (sent_value asking) (sent_key asking) (entry_bytes s.propose_acceptors) =
-      rw (list_here, counter_here, request_key req key value other) in
+      rw (counter_here, request_key req key value other) in
       due_none w s (first_due (request_tests s)) _ r a₂ w₁ (rw (up, free.room))
       record {
         answer = er ∙ sent ∙ sent_told s.propose_acceptors asking;
@@ -201,7 +197,6 @@ module _ (a w : List ℕ) (n : ℕ) (h : Header) (from : Address) (at id : ℕ) 
             ∙ ap (λ (l : List (Option Pending)). area_image (moved s (s.counter + 1) l)) (sym (free.taken pending));
         written =
             ew
-            ∙ ap (λ (u : List ℕ). sent_in w [] key u) list_here
             ∙ ap (λ (k : List ℕ). sent_in w [] k (entry_bytes s.propose_acceptors)) (sym (request_key req key value other))
             ∙ sent_written w s.propose_acceptors asking;
       }

@@ -13,7 +13,7 @@ ghost use Rattle.proposer_request.specs.Order.{asked_in};
 
 use messages::{Address, Answer, Ballot, ENTRIES_AT, ENTRY, Refusal, Rpc};
 pub use order::Order;
-use proposer_area::{Area, PROPOSE_LIST};
+use proposer_area::Area;
 use proposer_place::Rows;
 use proposer_works::{COUNTER_MOST, send};
 
@@ -37,7 +37,7 @@ pub fn request(
         return Answer::Refused(Refusal::NoRoom);
     };
     let ballot = Ballot(h.counter + 1);
-    let list = &area.bytes()[PROPOSE_LIST..PROPOSE_LIST + ENTRY * h.propose];
+    let list = area.propose_list();
     let sent = send(answer, Rpc::ProposeReq(ballot), &[], order.key, list);
     let entries = ENTRIES_AT + ENTRY * h.propose;
     let rows = Rows {

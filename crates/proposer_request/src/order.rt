@@ -5,7 +5,8 @@ ghost use Rattle.leaf_fields.specs.Fields.{byte};
 use messages::{Address, Ballot, Req};
 use proposer_place::{Front, Phase};
 
-// A request, its key, and its values as they are lent beside the enum: `value`, of a `Cas` the old one, and `other`, of a `Cas` the new one.
+// A request, its key, and its values as they are lent beside the enum: `value`, of a `Cas` the old one, and `other`, of a `Cas` the new
+// one.
 #[derive(Clone, Copy)]
 pub struct Order<'a> {
     pub req: Req,

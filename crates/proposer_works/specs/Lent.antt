@@ -1,9 +1,8 @@
 -- The rows of a pending request, as they are lent out of its place: its key, its values and the promised value, and the new value by them.
 -- Assumes nothing.
-use Rattle.std.specs.Prelude.{◌≡◌, List, [], ℕ, suc, zero, ◌+◌, ◌-◌, ◌*◌, ◌≤◌, ◌<◌, length, take, drop, get_or, Some}
-use Rattle.std.specs.Simd.{first_chunks}
+use Rattle.std.specs.Prelude.{◌≡◌, List, ℕ, ◌+◌, ◌-◌, ◌≤◌, length, take, drop, Some}
 use Rattle.std.proofs.Math.Path.{ap}
-use Rattle.std.proofs.Common.{◌∙◌, length-append, drop-drop}
+use Rattle.std.proofs.Common.{◌∙◌, length-append}
 use native.Mathlib.Omega.{arith}
 use Rattle.leaf_fields.specs.Fields.{part}
 use Rattle.messages.specs.Message.{given}
@@ -17,23 +16,10 @@ use Rattle.proposer_place.specs.AreaLaws.{Lawful}
 use Rattle.proposer_place.specs.Front.{Used, front_of}
 use Rattle.proposer_place.specs.Rows.{entries-length}
 use Rattle.proposer_place.specs.PlaceLaws.{key_part, values_part, promised_part}
-use Rattle.proposer_area.specs.Places.{place_in, places_in}
+use Rattle.proposer_area.specs.Places.{place_in}
 use Rattle.proposer_area.specs.Held.{Held, Pends}
 use Rattle.proposer_area.specs.HeldLaws.{lawful_pending}
 use Rattle.proposer_works.specs.NewValue.{applied_in, applied_short}
-
--- chunk i of an area's places is place i
-chunk_at : (m k i : ℕ) (xs : List ℕ) → i < k → get_or (first_chunks m k xs) i [] ≡ take m (drop (m * i) xs)
-chunk_at m zero i xs h = absurd (omega (arith, h))
-chunk_at m (suc k) zero xs h =
-    let e : m * 0 ≡ 0 = omega arith in
-    rw e
-chunk_at m (suc k) (suc i) xs h =
-    let e : m + m * i ≡ m * suc i = grind arith in
-    chunk_at m k i (drop m xs) (omega (arith, h)) ∙ ap (take m) (drop-drop (m * i) m xs ∙ ap (λ (j : ℕ). drop j xs) e)
-
-pub place_chunk : (a : List ℕ) (n i : ℕ) → i < n → get_or (places_in a n) i [] ≡ place_in a i
-place_chunk a n i h = chunk_at 976 n i (drop 80 a) h ∙ ap (take 976) (drop-drop (976 * i) 80 a)
 
 module _ (b : List ℕ) (f : Front) (used : Used b) (ef : f ≡ front_of (read_pending b)) where
   abbrev p : Pending

@@ -2,12 +2,12 @@
 -- answer area.
 -- Assumes nothing.
 use Rattle.std.specs.Prelude.{◌≡◌, List, ℕ, ◌+◌, ◌-◌, ◌*◌, ◌≤◌, length, take, drop}
-use Rattle.std.proofs.Common.{ap, ◌∙◌, arith, length-take}
+use Rattle.std.proofs.Common.{ap, ◌∙◌, arith}
 use Rattle.leaf_fields.specs.Laws.{length-part}
 use Rattle.messages.specs.Message.{Key, Value}
 use Rattle.messages.specs.Limits.{key_most, value_most, list_most}
 use Rattle.proposer_place.specs.declared.front.Front.{Front}
-use Rattle.proposer_place.specs.Area.{list_bytes, place_bytes, read_pending}
+use Rattle.proposer_place.specs.Area.{place_bytes, read_pending}
 use Rattle.proposer_place.specs.AreaLaws.{Lawful}
 use Rattle.proposer_place.specs.Front.{front_of, Used}
 use Rattle.proposer_rules.specs.State.{key_of}
@@ -15,7 +15,7 @@ use Rattle.proposer_area.specs.Turns.{sized_of}
 use Rattle.proposer_area.specs.declared.Header.{Header}
 use Rattle.proposer_area.specs.Places.{place_at, place_in, header_in}
 use Rattle.proposer_area.specs.Held.{Held, Pends}
-use Rattle.proposer_area.specs.HeldLaws.{place_room, used_place, lawful_pending, accept_short, propose_short}
+use Rattle.proposer_area.specs.HeldLaws.{place_room, used_place, lawful_pending, propose_short}
 use Rattle.proposer_works.specs.Works.{answer_bytes}
 use Rattle.proposer_works.specs.Sent.{sent_in, sent_length}
 
@@ -32,20 +32,8 @@ held_used a n i held pends = used_place a n held i pends
 
 -- ---- the lists
 
-pub accept_few : (a : List ℕ) (n : ℕ) (h : Header) → Held a n → h ≡ header_in a → h.accept ≤ list_most
-accept_few a n h held eh = rw eh (accept_short a n held)
-
 pub propose_few : (a : List ℕ) (n : ℕ) (h : Header) → Held a n → h ≡ header_in a → h.propose ≤ list_most
 propose_few a n h held eh = rw eh (propose_short a n held)
-
-lent_short : (l : List ℕ) (at k most : ℕ) → k ≤ most → length (take (at + k - at) (drop at l)) ≤ most
-lent_short l at k most few = rw (length-take (at + k - at) (drop at l)) (omega (arith, few))
-
-pub accept_lent : (a : List ℕ) (n : ℕ) (h : Header) → Held a n → h ≡ header_in a → length (take (20 + 2 * h.accept - 20) (drop 20 a)) ≤ list_bytes
-accept_lent a n h held eh = lent_short a 20 (2 * h.accept) 30 (omega (arith, accept_few a n h held eh))
-
-pub propose_lent : (a : List ℕ) (n : ℕ) (h : Header) → Held a n → h ≡ header_in a → length (take (50 + 2 * h.propose - 50) (drop 50 a)) ≤ list_bytes
-propose_lent a n h held eh = lent_short a 50 (2 * h.propose) 30 (omega (arith, propose_few a n h held eh))
 
 -- ---- what a front says of a pending request
 

@@ -4,20 +4,20 @@
 
 mod request;
 
-ghost use Rattle.std.specs.Prelude.{◌≡◌, cond, not, [], ◌≤◌, ◌/◌, eqb, leb, length};
+ghost use Rattle.std.specs.Prelude.{◌≡◌, not, [], ◌≤◌, leb, length};
 ghost use Rattle.std.specs.Prelude.{None, Some, MatchOption};
-ghost use Rattle.std.proofs.lemmas.List.Edits.{sets};
+ghost use Rattle.std.specs.List.{flat_map};
 ghost use Rattle.messages.specs.Message.{Reply, failure_of};
-ghost use Rattle.messages.specs.Limits.{key_most, value_most};
-ghost use Rattle.messages.specs.Answers.{key_at, entries_at, rows_at, answer_of};
+ghost use Rattle.messages.specs.Limits.{key_most, value_most, list_most};
+ghost use Rattle.messages.specs.Answers.{rows_at, answer_of};
 ghost use Rattle.proposer_rules.specs.State.{with_no};
 ghost use Rattle.proposer_rules.specs.Rules.{majority_of, to_client};
-ghost use Rattle.proposer_place.specs.Area.{list_bytes};
 ghost use Rattle.proposer_area.specs.State.{state, pending, HasPending, Becomes};
 ghost use Rattle.proposer_works.specs.Works.{MayAsk, Noted, Outvoted, placed};
+ghost use Rattle.proposer_works.specs.Sent.{sent_in, told_in};
 
 pub use messages::{ENTRIES_AT, KEY_AT, ROW, ROWS_AT};
-use messages::{Address, Answer, Ballot, ENTRY, Error, Rpc};
+use messages::{Address, Answer, Ballot, Error, Rpc};
 use proposer_area::Area;
 pub use request::{Request, request_at};
 
@@ -25,20 +25,21 @@ pub use request::{Request, request_at};
 pub const COUNTER_MOST: u64 = u64::MAX;
 
 // A message to each entry of a list: its value, its key and the entries are put into the answer area, and the enum is answered. A list
-// without entries is the answer nothing, which needs no bytes.
-pub fn send(answer: &mut [u8], rpc: Rpc, value: &[u8], key: &[u8], list: &[u8]) -> Answer
-    requires { (rows_at ≤ length answer.old) × (length value.now ≤ value_most) × (length key.now ≤ key_most) × (length list.now ≤ list_bytes) }
-    ensures { (answer.new ≡ cond (eqb (length list.now) 0) answer.old (sets (sets (sets answer.old 0 value.now) key_at key.now) entries_at list.now)) × (result ≡ cond (eqb (length list.now) 0) Answer.Nothing (Answer.Broadcast rpc (length list.now / 2) (length key.now) (length value.now))) }
+// without entries is the answer nothing, which needs no bytes. The limits are clauses: each part is a slice of a place, of the header or of a
+// message, whose type has its own.
+pub fn send(answer: &mut [u8], rpc: Rpc, value: &[u8], key: &[u8], list: &[[u8; 2]]) -> Answer
+    requires { (rows_at ≤ length answer.old) × (length value.now ≤ value_most) × (length key.now ≤ key_most) × (length list.now ≤ list_most) }
+    ensures { let entries = flat_map (λ e. e) list.now in (answer.new ≡ sent_in answer.old value.now key.now entries) × (result ≡ told_in rpc value.now key.now entries) }
 {
     if list.is_empty() {
         return Answer::Nothing;
     }
     leaf_fields::copy(answer, 0, value);
     leaf_fields::copy(answer, KEY_AT, key);
-    leaf_fields::copy(answer, ENTRIES_AT, list);
+    leaf_fields::copy(answer, ENTRIES_AT, list.as_flattened());
     Answer::Broadcast {
         rpc,
-        entries: list.len() / ENTRY,
+        entries: list.len(),
         key_len: key.len(),
         value_len: value.len(),
     }
@@ -51,8 +52,9 @@ pub fn short_of(answers: usize, n: usize) -> bool
     answers < proposer_change::majority(n)
 }
 
-// What is done at place i takes the area and i, and requires what the place then holds: a type of both would hold the `&mut Area`, and
-// each work would have to promise of two lenders that they stay.
+// What is done at place i takes the area and i, and requires what the place then holds. Of a type of both, with that as its ghost field,
+// the field is false once `drop_with` has dropped the place; and the type would hold the `&mut Area`, so that each work had to promise of
+// two lenders, the area's and the bytes', that they stay (`lent` of `WorkedOn` twice).
 
 // The request at place i dropped, its client told an error, and the counter raised.
 pub fn drop_with(area: &mut Area<'_>, i: usize, counter: u64, error: Error) -> Answer

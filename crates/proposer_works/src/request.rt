@@ -79,7 +79,8 @@ impl<'a> Request<'a> {
         listed(list(b, WAITED, self.front.waiting_for), from.0)
     }
 
-    // Refusal 6 or 7, where it is due to the sender of an answer.
+    // Refusal 6 or 7, where it is due to the sender of an answer. An `Option`, as `first_due` of its clause is one: of a `Result` a caller,
+    // which answers an `Answer`, would hand the refusal on by the same `if let`.
     pub fn refused(self, from: Address) -> Option<Refusal>
         ensures { result ≡ first_due (sender_tests (asked self.entry) from) }
     {

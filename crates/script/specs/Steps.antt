@@ -20,9 +20,9 @@ proposer_by (Some places) (Some timeout) l = cond l (Some (Step.Proposer places 
 -- `lend CAPACITY BYTES AREA`
 abbrev pub lend_by : Option ℕ → Option ℕ → Option ℕ → Option Step
 lend_by None b a = None
-lend_by (Some registers) None a = None
-lend_by (Some registers) (Some bytes) None = None
-lend_by (Some registers) (Some bytes) (Some area) = Some (Step.Lend registers bytes area)
+lend_by (Some capacity) None a = None
+lend_by (Some capacity) (Some bytes) None = None
+lend_by (Some capacity) (Some bytes) (Some area) = Some (Step.Lend capacity bytes area)
 
 -- `poke AT BYTES`
 abbrev pub poke_by : Option ℕ → Bool → Option Step

@@ -22,7 +22,7 @@ pub enum Step {
     // the time that messages carry from now on
     Clock(u64),
     Lend {
-        registers: usize,
+        capacity: usize,
         bytes: usize,
         area: usize,
     },
@@ -32,7 +32,7 @@ pub enum Step {
     Area,
     Tick(u64),
     Message(Address, Rpc),
-    // a step and no None, since a run answers it with a line of its own
+    // a step and no None: `Read` answers with it (`step_of`), and `taken_in` of script_run has it as a case with a line of its own
     Unreadable,
 }
 
@@ -75,7 +75,7 @@ fn read_lend(words: &Words<'_>) -> Option<Step>
         return None;
     }
     Some(Step::Lend {
-        registers: read_number(words.word(1))? as usize,
+        capacity: read_number(words.word(1))? as usize,
         bytes: read_number(words.word(2))? as usize,
         area: read_number(words.word(3))? as usize,
     })
@@ -90,6 +90,7 @@ fn read_poke(words: &Words<'_>) -> Option<Step>
     Some(Step::Poke(read_number(words.word(1))? as usize))
 }
 
+// Names go through `same`, as in script_message.
 #[tactic(auto, unfolding(crate::specs::Steps::step_in, crate::specs::Steps::lent_in))]
 fn read_step(words: &Words<'_>) -> Option<Step>
     ensures { result ≡ step_in (word_at words.now) words.now.n }
@@ -130,14 +131,14 @@ fn step_places(step: Step) -> Places
     match step {
         Step::Proposer(_, _) => Places {
             list: Some(3),
-            ..Places::NONE
+            ..Places::default()
         },
         Step::Poke(_) => Places {
             value: Some(2),
-            ..Places::NONE
+            ..Places::default()
         },
         Step::Message(_, rpc) => places_of(rpc),
-        _ => Places::NONE,
+        _ => Places::default(),
     }
 }
 

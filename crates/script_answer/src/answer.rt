@@ -38,7 +38,7 @@ fn part(area: &[u8], at: usize, n: usize) -> &[u8]
     &rest[..n.min(rest.len())]
 }
 
-// A refusal's name. No `Display`: it goes into an `Output`, whose clause says which bytes stand there.
+// A refusal's name. No `Display`, as message.rt says of a message.
 fn name(refusal: Refusal) -> &'static [u8]
     ensures { result.now ≡ name_text refusal }
 {
@@ -67,7 +67,8 @@ fn put_entry<const N: usize>(out: &mut Output<N>, entry: &[u8])
     out.put_number(leaf_fields::read::<u16>(entry, 0) as u64);
 }
 
-// The n entries that a broadcast goes to, as a list; those that the area has room for. The number beside the area, as an `Answer` has it.
+// The n entries that a broadcast goes to, as a list; those that the area has room for. The number beside the area: `Answer` has numbers and
+// no slices, for the C interface (messages/src/answer.rt).
 fn put_list<const N: usize>(out: &mut Output<N>, area: &[u8], n: usize)
     ensures { out.new ≡ put N out.old (list_text (entries_in area.now entries_at n)) }
 {
@@ -111,7 +112,8 @@ fn put_one<const N: usize>(out: &mut Output<N>, to: Address, rpc: Rpc, value: &[
     put_message(out, rpc, b"", value, value);
 }
 
-// The parts of an `Answer::Broadcast`, with the area that its entries stand in.
+// The parts of an `Answer::Broadcast`, with the area that its entries stand in, one by one: a struct of them would be built for the one
+// call and taken apart here.
 fn put_each<const N: usize>(
     out: &mut Output<N>,
     rpc: Rpc,

@@ -1,5 +1,5 @@
-// A message in the words of a script. Its bytes are lent beside it, as messages/specs/Message.antt says; so there is no `Display`, whose `fmt`
-// takes the message alone.
+// A message in the words of a script. Its bytes are lent beside it, as messages/specs/Message.antt says. No `Display`: an `Output`'s
+// clauses say which bytes stand there whether they fit or not, and `write!` of a `Display` says it after an Ok alone.
 ghost use Rattle.std.specs.Prelude.{◌≡◌, [], ◌++◌, Err};
 ghost use Rattle.messages.specs.Message.{given, failure_of, result_of, response_of, request_of, message_of};
 ghost use Rattle.script_words.specs.Letters.{letters};
@@ -61,14 +61,15 @@ fn put_option<const N: usize>(out: &mut Output<N>, o: Option<Lent>, value: &[u8]
 fn put_error<const N: usize>(out: &mut Output<N>, e: Error, value: &[u8])
     ensures { out.new ≡ put N out.old (letters " Err" ++ failure_text (failure_of e value.now)) }
 {
+    out.put_text(b" Err");
     match e {
-        Error::ProposalRejected { last } => put_numbered(out, b" Err ProposalRejected", last.0),
-        Error::AcceptRejected { last } => put_numbered(out, b" Err AcceptRejected", last.0),
+        Error::ProposalRejected { last } => put_numbered(out, b" ProposalRejected", last.0),
+        Error::AcceptRejected { last } => put_numbered(out, b" AcceptRejected", last.0),
         Error::CasFailed(o) => {
-            out.put_text(b" Err CasFailed");
+            out.put_text(b" CasFailed");
             put_option(out, o, value)
         }
-        Error::Timeout => out.put_text(b" Err Timeout"),
+        Error::Timeout => out.put_text(b" Timeout"),
     }
 }
 

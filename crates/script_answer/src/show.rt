@@ -6,7 +6,8 @@ ghost use Rattle.script_answer.specs.Lines.{kept_of, area_line, block_line};
 use super::message::put_numbered;
 use script_words::Output;
 
-// The bytes before the zeros at the end: a `while let` on the slice's pattern, with no index.
+// The bytes before the zeros at the end: a `while let` on the slice's pattern, with no index. `rposition` gives the place of the last byte
+// that is kept, from which an end and a slice would be made: no plainer.
 fn kept(mut s: &[u8]) -> &[u8]
     ensures { result.now ≡ take (kept_of s.now) s.now }
 {

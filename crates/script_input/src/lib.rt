@@ -7,7 +7,8 @@ ghost use Rattle.script_input.specs.Shown.{Shows};
 use std::io::Read;
 
 // The line from `from` to `end`; what was read reaches to `to`. Where `end` is `to` the line has no line end: it is the input's last, or
-// longer than the buffer; its bytes are taken either way, so `end` is no Option.
+// longer than the buffer; its bytes are taken either way, so `end` is no Option. The input's end is an empty window, and `input`, `buf`,
+// `from` and `to` are lent one by one: `next_line` and `after` are public, and what they take and promise (`Shows`) stays.
 #[derive(Clone, Copy)]
 pub struct Window {
     pub from: usize,
@@ -32,13 +33,15 @@ fn long_line<R: Read>(input: &mut R, buf: &mut [u8], to: usize) -> Window
     let mut n = to;
     while n < buf.len() {
         let more = read_on(input, buf, n);
-        let end = script_words::place_of(&buf[..more], n, b'\n');
-        if end < more || more == n {
+        if let Some(end) = script_words::place_of(&buf[..more], n, b'\n') {
             return Window {
                 from: 0,
                 end,
                 to: more,
             };
+        }
+        if more == n {
+            break;
         }
         n = more;
     }
@@ -56,8 +59,7 @@ pub fn next_line<R: Read>(input: &mut R, buf: &mut [u8], from: usize, to: usize)
     if buf.len() < to || to < from {
         return long_line(input, buf, 0);
     }
-    let end = script_words::place_of(&buf[..to], from, b'\n');
-    if end < to {
+    if let Some(end) = script_words::place_of(&buf[..to], from, b'\n') {
         return Window { from, end, to };
     }
     buf.copy_within(from..to, 0);

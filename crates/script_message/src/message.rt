@@ -1,5 +1,6 @@
-// A message's words: which message they are. Its bytes are checked here and stored by `read`. Names go through `same`: `==` compares no slice
-// with a byte string, and behind the arms of a match on byte strings the other names stay open (`returns-in_default`).
+// A message's words: which message they are. Its bytes are checked here and stored by `read`. Names go through `same`, since
+// `name == b"Ok".as_slice()` is longer and no plainer, and behind the arms of a match on byte strings the other names stay open
+// (`returns-in_default`).
 ghost use Rattle.std.specs.Prelude.{◌≡◌, ◌<◌};
 ghost use Rattle.script_words.specs.Text.{number_of};
 ghost use Rattle.script_words.specs.Split.{word_at};

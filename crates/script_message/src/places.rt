@@ -4,22 +4,13 @@ ghost use Rattle.script_message.specs.Words.{error_word, res_word, req_words, re
 
 use messages::{Error, Lent, Req, Rpc};
 
-// The words of a line that hold a step's key, its value, its other value and its list, as far as it has them.
-#[derive(Clone, Copy)]
+// The words of a line that hold a step's key, its value, its other value and its list, as far as it has them; by default none.
+#[derive(Clone, Copy, Default)]
 pub struct Places {
     pub key: Option<usize>,
     pub value: Option<usize>,
     pub other: Option<usize>,
     pub list: Option<usize>,
-}
-
-impl Places {
-    pub const NONE: Places = Places {
-        key: None,
-        value: None,
-        other: None,
-        list: None,
-    };
 }
 
 // The value of an error whose last word stands at a place.
@@ -43,7 +34,7 @@ fn req_places(req: Req) -> Places
 {
     let keyed = Places {
         key: Some(4),
-        ..Places::NONE
+        ..Places::default()
     };
     match req {
         Req::Get | Req::Del => keyed,
@@ -65,11 +56,11 @@ fn response_places(response: Result<Option<Lent>, Error>) -> Places
     match response {
         Ok(o) => Places {
             value: o.and(Some(4)),
-            ..Places::NONE
+            ..Places::default()
         },
         Err(e) => Places {
             other: error_place(e, 5),
-            ..Places::NONE
+            ..Places::default()
         },
     }
 }
@@ -83,11 +74,11 @@ pub fn places_of(rpc: Rpc) -> Places
         Rpc::ClientResponse(_, response) => response_places(response),
         Rpc::SetAcceptAcceptors | Rpc::SetProposeAcceptors => Places {
             list: Some(2),
-            ..Places::NONE
+            ..Places::default()
         },
         Rpc::ProposeReq(_) => Places {
             key: Some(3),
-            ..Places::NONE
+            ..Places::default()
         },
         Rpc::ProposeRes {
             last_accepted_value,
@@ -96,16 +87,16 @@ pub fn places_of(rpc: Rpc) -> Places
         } => Places {
             value: last_accepted_value.and(Some(4)),
             other: res_place(res, 7),
-            ..Places::NONE
+            ..Places::default()
         },
         Rpc::AcceptReq(_, o) => Places {
             key: Some(3),
             value: o.and(Some(4)),
-            ..Places::NONE
+            ..Places::default()
         },
         Rpc::AcceptRes(_, res) => Places {
             other: res_place(res, 5),
-            ..Places::NONE
+            ..Places::default()
         },
     }
 }

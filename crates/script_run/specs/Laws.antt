@@ -12,9 +12,16 @@ use Rattle.script_run.specs.declared.run.Run.{Run}
 use Rattle.script_run.specs.State.{State, state}
 use Rattle.script_run.specs.Obeyed.{Ran, ran, after, lent_back, Heard, Gave, heard_in}
 
--- the first of two outcomes, by a test
+-- a step that puts nothing out
+pub quiet : (n : ℕ) (v : State) (s : Run) (t a : List ℕ) → after n v (ran s t a []) ≡ state s t a v.out
+quiet n v s t a = rw (put_nothing n v.out)
+
+-- one of two outcomes, by a test
 pub first_of : (n : ℕ) (v w : State) (p : Bool) (x y : Ran) → p ≡ true → w ≡ after n v x → w ≡ after n v (cond p x y)
 first_of n v w p x y e k = rw e k
+
+pub second_of : (n : ℕ) (v w : State) (p : Bool) (x y : Ran) → p ≡ false → w ≡ after n v y → w ≡ after n v (cond p x y)
+second_of n v w p x y e k = rw e k
 
 -- the first n elements were lent, and ys came back
 pub back : (l ys : List ℕ) (n : ℕ) → put_mid 0 (n - 0) l ys ≡ lent_back l n ys
@@ -23,9 +30,12 @@ back l ys n = rw (sub-zero n)
 pub lent : (l : List ℕ) (n : ℕ) → take (n - 0) (drop 0 l) ≡ take n l
 lent l n = rw (sub-zero n)
 
--- what came back is as long as what was lent, so the front of the whole is what came back
+-- what came back is as long as what was lent, so the whole keeps its length, and its front is what came back
 pub back_length : (l ys : List ℕ) (n : ℕ) → n ≤ length l → length ys ≡ length (take (n - 0) (drop 0 l)) → length ys ≡ n
 back_length l ys n h e = rw (lent l n, length-take-le n l h) at e
+
+pub length_back : (l ys : List ℕ) (n : ℕ) → n ≤ length l → length ys ≡ n → length (lent_back l n ys) ≡ length l
+length_back l ys n h e = rw (length-append ys (drop n l), length-drop n l) (omega (arith, h, e))
 
 pub front_back : (l ys : List ℕ) (n : ℕ) → length ys ≡ n → take n (lent_back l n ys) ≡ ys
 front_back l ys n e = rw (← e) (take-append_seam ys (drop (length ys) l))

@@ -62,7 +62,7 @@ impl<const TABLE: usize, const AREA: usize, const OUT: usize> Bench<TABLE, AREA,
         ensures { result ≡ state fresh (replicate TABLE 0) (replicate AREA 0) [] }
     {
         Bench {
-            run: Run::new(),
+            run: Run::default(),
             table: [0; TABLE],
             area: [0; AREA],
             out: Output::new(),
@@ -90,7 +90,7 @@ impl<const TABLE: usize, const AREA: usize, const OUT: usize> Bench<TABLE, AREA,
         self.out.clear();
     }
 
-    // A step that was read, and its bytes.
+    // A step that was read, and its bytes. They go one by one: an `Incoming` has a message, and most steps are none.
     fn take(&mut self, step: Step, line: u64, key: &[u8], value: &[u8], other: &[u8], list: &[u16])
         ensures { self.new ≡ after OUT self.old (taken_in self.old.run self.old.table self.old.area line step key.now value.now other.now list.now) }
     {
@@ -103,10 +103,10 @@ impl<const TABLE: usize, const AREA: usize, const OUT: usize> Bench<TABLE, AREA,
             Step::Proposer(places, timeout) => self.start_proposer(line, places, timeout, list),
             Step::Clock(time) => self.run.clock = time,
             Step::Lend {
-                registers,
+                capacity,
                 bytes,
                 area,
-            } => self.lend(line, registers, bytes, area),
+            } => self.lend(line, capacity, bytes, area),
             Step::Poke(at) => self.poke(line, at, value),
             Step::Table => self.show_table(),
             Step::Area => self.show_area(),

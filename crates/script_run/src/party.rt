@@ -6,23 +6,16 @@ ghost use Rattle.messages.specs.Message.{arrived};
 ghost use Rattle.script_run.specs.Obeyed.{after, is_proposer, message_on, message_in, tick_in, Gave};
 
 use super::Bench;
-use super::run::Party;
+use super::run::{Party, Run};
 use messages::{Address, Answer, Incoming};
 
 // A message to a proposer or an acceptor, with what is lent.
-fn receive(
-    party: Option<Party>,
-    table: &mut [u8],
-    capacity: usize,
-    area: &mut [u8],
-    from: Address,
-    clock: u64,
-    message: Incoming,
-) -> Answer
-    ensures { Gave (message_on (is_proposer party) table.old capacity area.old from clock (arrived message.entry)) result table.new area.new }
+fn receive(run: Run, table: &mut [u8], area: &mut [u8], from: Address, message: Incoming) -> Answer
+    ensures { Gave (message_on (is_proposer run.party) table.old run.capacity area.old from run.clock (arrived message.entry)) result table.new area.new }
 {
-    match party {
-        Some(Party::Proposer) => proposer::receive(table, capacity, from, clock, message, area),
+    let capacity = run.capacity;
+    match run.party {
+        Some(Party::Proposer) => proposer::receive(table, capacity, from, run.clock, message, area),
         _ => acceptor::receive(table, capacity, from, message, area),
     }
 }
@@ -37,12 +30,10 @@ impl<const TABLE: usize, const AREA: usize, const OUT: usize> Bench<TABLE, AREA,
         let table = &mut self.table[..];
         let area = &mut self.area[..];
         let answer = receive(
-            run.party,
+            run,
             &mut table[0..run.bytes],
-            run.capacity,
             &mut area[0..run.area],
             from,
-            run.clock,
             message,
         );
         self.put_answer(answer);

@@ -1,6 +1,6 @@
 // Where a run of a script stands.
 ghost use Rattle.std.specs.Prelude.{◌≡◌, max};
-ghost use Rattle.script_run.specs.Run.{fresh, lending, reached};
+ghost use Rattle.script_run.specs.Run.{lending, reached};
 
 #[derive(Clone, Copy)]
 pub enum Party {
@@ -10,8 +10,8 @@ pub enum Party {
 
 // Which party there is, the time that messages carry, what is lent to the party (its capacity is the registers of an acceptor's table or
 // the places of a proposer's area), how far the table may hold anything but zeros, and whether the run is over: a bit with nothing beside
-// it, so no enum.
-#[derive(Clone, Copy)]
+// it, so no enum. By default there is no party yet.
+#[derive(Clone, Copy, Default)]
 pub struct Run {
     pub party: Option<Party>,
     pub clock: u64,
@@ -23,21 +23,8 @@ pub struct Run {
 }
 
 impl Run {
-    pub fn new() -> Self
-        ensures { result ≡ fresh }
-    {
-        Run {
-            party: None,
-            clock: 0,
-            capacity: 0,
-            bytes: 0,
-            area: 0,
-            reach: 0,
-            ended: false,
-        }
-    }
-
-    // The party is lent this from now on.
+    // The party is lent this from now on. The three numbers go one by one, here and in start.rt: the callers have them so (`Step::Lend`, or
+    // sums), and a struct of them would be built for the one call and taken apart here.
     pub fn lending(self, capacity: usize, bytes: usize, area: usize) -> Self
         ensures { result ≡ lending self capacity bytes area }
     {

@@ -52,7 +52,7 @@ impl<const TABLE: usize, const AREA: usize, const OUT: usize> Bench<TABLE, AREA,
         bytes <= table.len() && area <= answer.len()
     }
 
-    // A fresh party: what it is lent is zeros.
+    // A fresh party: what it is lent is zeros. A part is written `0..n`, as party.rt says.
     fn fresh(&mut self, line: u64, party: Party, capacity: usize, bytes: usize, area: usize)
         ensures { self.new ≡ after OUT self.old (fresh_in self.old.run self.old.table self.old.area line party capacity bytes area) }
     {

@@ -64,6 +64,7 @@ pub fn unhex(word: &[u8], out: &mut [u8], at: usize) -> usize
     ensures { (result ≤ length out.new) × (result ≡ behind out.old at (length (bytes_of word.now))) × (out.new ≡ written out.old at (bytes_of word.now)) }
 {
     let pairs = digits(word).as_chunks::<2>().0;
+    // a `for` and no `fold`: what a closure changes behind a borrow, as `out` would be, is not told
     let mut end = at;
     for pair in pairs {
         end = put_byte(out, end, hex_value(pair[0]) * 16 + hex_value(pair[1]));

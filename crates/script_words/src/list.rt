@@ -14,6 +14,7 @@ pub const LIST_ROOM: usize = 32;
 pub fn is_list(word: &[u8]) -> bool
     ensures { result ≡ list_word word.now }
 {
+    // tried with `matches!(word, [b'-'])`: `returns-then-matches` stays open
     if same(word, b"-") {
         return true;
     }
@@ -26,7 +27,7 @@ pub fn read_list(word: &[u8], out: &mut [u16]) -> usize
     ensures { (result ≡ behind out.old 0 (length (list_of word.now))) × (out.new ≡ sets out.old 0 (list_of word.now)) }
 {
     let room = out.len().min(LIST_ROOM);
-    // `n` is the answer
+    // `n` is the answer, which an index of `enumerate` or `zip` would not be behind the loop
     let mut n = 0;
     for entry in word.split(|b| *b == b',').take(room) {
         let Some(a) = read_address(entry) else {

@@ -12,6 +12,7 @@ pub fn read_number(word: &[u8]) -> Option<u64>
     if word.is_empty() {
         return None;
     }
+    // tried with `try_fold`: `returns` stays open, since no law of the library leads from its clause to a fold of a list
     let mut x: u64 = 0;
     for b in word {
         let digit = char::from(*b).to_digit(10)?;

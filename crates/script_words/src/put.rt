@@ -1,5 +1,7 @@
 // Text, numbers and bytes, put one behind the other into a lent buffer, or into an `Output`, which has its buffer. What doesn't fit is left
-// out.
+// out. Functions and methods both: the functions are public, for a caller with a buffer of its own, and what they promise of it (`Put`)
+// stays; a method is a line over one. No `write!` into either: it answers a Result, and the library tells the bytes after an Ok alone
+// (`OnOk` of `fmt::Write`), where these tell them always.
 #![tactic(auto, using(crate::specs::LentLaws::put_in))]
 
 ghost use Rattle.std.specs.Prelude.{◌≡◌, [], ◌∷◌, ◌-◌, length};
@@ -24,8 +26,7 @@ pub fn put_byte(out: &mut [u8], at: usize, b: u8) -> usize
     put_text(out, at, &[b])
 }
 
-// In decimal, with no zeros in front. No `write!` of `{n}`: it needs a writer, and a lent buffer with a place would have to become one, with
-// an `impl`, for these lines.
+// In decimal, with no zeros in front.
 pub fn put_number(out: &mut [u8], at: usize, n: u64) -> usize
     ensures { Put out.old at (decimal n) result out.new }
 {
@@ -41,6 +42,7 @@ pub fn put_number(out: &mut [u8], at: usize, n: u64) -> usize
 pub fn put_hex(out: &mut [u8], at: usize, bytes: &[u8]) -> usize
     ensures { Put out.old at (hex_of bytes.now) result out.new }
 {
+    // a `for` and no `fold`: what a closure changes behind a borrow, as `out` would be, is not told
     let mut end = at;
     for b in bytes {
         end = put_text(out, end, &[hex_digit(b / 16), hex_digit(b % 16)]);

@@ -2,8 +2,7 @@
 // value; a set takes the lowest free block for a new key. specs/Operations.antt says what each answers and stores.
 #![tactic(auto)]
 
-ghost use Rattle.std.specs.Prelude.{◌≡◌, true, [], ◌+◌, ◌*◌, ◌≤◌, length};
-ghost use Rattle.messages.specs.Message.{given};
+ghost use Rattle.std.specs.Prelude.{◌≡◌, true, [], ◌+◌, ◌*◌, ◌≤◌, length, option_map};
 ghost use Rattle.storage_block.specs.Block.{block_bytes, readable, register_with, register, fresh};
 ghost use Rattle.storage_search.specs.Table.{block_at};
 ghost use Rattle.storage.specs.Operations.{BlockOf, highest_seen, accepted_ballot, ValueGot, changed, RegisterSet, BlockSet, full_by, KeySet};
@@ -13,7 +12,8 @@ use storage_block::BLOCK;
 use storage_search::Found;
 use storage_write::Register;
 
-// What a set changes of a register; a value's bytes are lent beside it.
+// What a set changes of a register. A value's bytes are lent beside it, as the clauses of the three sets have it: `KeySet` and `changed`
+// take a change and, beside it, the bytes.
 #[derive(Clone, Copy)]
 pub enum Change {
     HighestSeen(Ballot),
@@ -80,12 +80,12 @@ pub fn get_accepted_value(
 
 // A register's block, if the register is within 01's limits and its accepted ballot is not above highest seen.
 fn write_register(b: &mut [u8; BLOCK], r: Register) -> Result<(), Refusal>
-    ensures { RegisterSet (register r.entry.key.now r.entry.seen r.entry.accepted (given r.entry.value r.entry.bytes.now)) b.old result b.new }
+    ensures { RegisterSet (register r.entry.key.now r.entry.seen r.entry.accepted (option_map (λ v. v.now) r.entry.value)) b.old result b.new }
 {
     if r.accepted.above(r.seen) {
         return Err(Refusal::Damaged);
     }
-    if !messages::register_fits(r.key, r.value, r.bytes) {
+    if KEY_MOST < r.key.len() || r.value.is_some_and(|v| VALUE_MOST < v.len()) {
         return Err(Refusal::OverLimit);
     }
     storage_write::write(b, r);
@@ -101,23 +101,28 @@ fn set_in(b: &mut [u8; BLOCK], key: &[u8], change: Change, bytes: &[u8]) -> Resu
 {
     let mut area = [0; VALUE_AREA];
     let len = storage_block::copy_value(b, &mut area);
+    let kept = len.and(Some(&area[..len.unwrap_or(0)]));
     let r = Register {
         key,
         seen: storage_block::highest_seen(b),
         accepted: storage_block::accepted_ballot(b),
-        value: len.and(Some(Lent)),
-        bytes: &area[..len.unwrap_or(0)],
+        value: kept,
     };
     match change {
         Change::HighestSeen(seen) => write_register(b, Register { seen, ..r }),
         Change::AcceptedBallot(accepted) => write_register(b, Register { accepted, ..r }),
-        Change::AcceptedValue(value) => write_register(b, Register { value, bytes, ..r }),
+        Change::AcceptedValue(o) => {
+            let value = o.and(Some(bytes));
+            write_register(b, Register { value, ..r })
+        }
     }
 }
 
 // The same on block i of the table: that block alone is lent on. The acceptor lends it on in the same lines, twice. Tried for the three:
 // `as_chunks_mut`, of which no clause says what the table ends as; a function that hands the block out, whose clause on the table stayed
 // open, as above; and one that takes a closure, after which nothing is known of the answer area that the closure borrows.
+// That block i is in the table is asked of the three: a type with that fact would hold the table and i, and the first line of each would
+// take them out again.
 fn set_at(
     table: &mut [u8],
     i: usize,

@@ -1,8 +1,9 @@
 -- A value that is stored and found again.
 -- Assumes nothing.
 use Rattle.std.specs.Prelude.{◌≡◌, refl, true, List, ℕ, ◌≤◌, length, take}
-use Rattle.std.proofs.Common.{ap, arith}
+use Rattle.std.proofs.Common.{ap, ◌∙◌, arith}
 use Rattle.std.specs.Prelude.{Option, None, Some, option_map, unwrap_or}
+use denote.Ref.{Bor}
 use Rattle.std.specs.Option.{option_and}
 use Rattle.std.proofs.lemmas.List.Edits.{sets}
 use Rattle.leaf_fields.specs.Laws.{part_same}
@@ -34,8 +35,13 @@ module _ (o : Option Value) (len : Option ℕ) (el : len ≡ option_map length o
       by None = refl
       by (Some v) = refl
 
-  pub copied_back : (mark : Option Lent) (n : ℕ) (a a' : List ℕ) → mark ≡ option_and len (Some lent) → n ≡ unwrap_or len 0 → a' ≡ sets a 0 (bytes_of o) → length (bytes_of o) ≤ length a → given mark (take n a') ≡ o
-  copied_back mark n a a' em en ea h = rw (em, copied_mark, en, copied_length, ea) (value_back o a h)
+  -- the copy, as a value where there is one, is the value
+  pub copied_back : (n : ℕ) (a a' : List ℕ) (r : Option (Bor (List ℕ))) (v : Bor (List ℕ)) → v.now ≡ take n a' → r ≡ option_and len (Some v) → n ≡ unwrap_or len 0 → a' ≡ sets a 0 (bytes_of o) → length (bytes_of o) ≤ length a → option_map (λ x. x.now) r ≡ o
+  copied_back n a a' r v ev er en ea h = rw er (by len ∙ rw (ev, copied_mark, en, copied_length, ea) (value_back o a h))
+    where
+      by : (l : Option ℕ) → option_map (λ x. x.now) (option_and l (Some v)) ≡ given (option_and l (Some lent)) v.now
+      by None = refl
+      by (Some m) = refl
 
 -- of a block that may be read it is within the limits
 pub copied_room : (b : List ℕ) (len : Option ℕ) (n : ℕ) → length b ≡ block_bytes → readable b ≡ true → len ≡ option_map length (register_of b).value → n ≡ unwrap_or len 0 → n ≤ value_most

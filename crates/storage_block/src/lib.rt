@@ -88,7 +88,7 @@ pub fn accepted_ballot(b: &[u8; BLOCK]) -> Ballot
 
 // The value's bytes, as a part of the block, if there is a value.
 #[tactic(auto, unfolding(crate::specs::Block::register_of))]
-fn value(b: &[u8; BLOCK]) -> Option<&[u8]>
+pub fn value(b: &[u8; BLOCK]) -> Option<&[u8]>
     requires { readable b.now ≡ true }
     ensures { option_map (λ v. v.now) result ≡ (register_of b.now).value }
 {

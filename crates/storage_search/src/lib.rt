@@ -7,6 +7,7 @@ ghost use Rattle.messages.specs.Refusals.{first_due};
 ghost use Rattle.storage_block.specs.Block.{slot_of};
 ghost use Rattle.storage_search.specs.Table.{
   BlocksOf,
+  is_sized,
   LentAs,
   table_tests,
   none_bad,
@@ -19,7 +20,8 @@ ghost use Rattle.storage_search.specs.Table.{
 use messages::{REGISTERS_MOST, Refusal};
 use storage_block::{BLOCK, BlockState};
 
-// Where a key is. Four cases, of which two have a block and two have none: no shape of an Option or a Result.
+// Where a key is. An enum of four cases, since the definition `where_is` answers with it, and `is_twice`, `is_full`, `put_at` and
+// `placed_at` are by its cases.
 #[derive(Clone, Copy)]
 pub enum Found {
     // the one block that holds the key
@@ -32,12 +34,18 @@ pub enum Found {
     Twice,
 }
 
-// The table as its blocks, if it has 1 to 1,024 registers and 512 bytes for each: refusal 1 is not due.
-#[tactic(auto, unfolding(crate::specs::Table::is_sized))]
+// Whether the table has 1 to 1,024 registers and 512 bytes for each: refusal 1 is not due.
+pub fn is_sized(table: &[u8], registers: usize) -> bool
+    ensures { result ≡ is_sized table.now registers }
+{
+    (1..=REGISTERS_MOST).contains(&registers) && table.len() == registers * BLOCK
+}
+
+// The table as its blocks, if it is sized.
 fn blocks(table: &[u8], registers: usize) -> Option<&[[u8; BLOCK]]>
     ensures { BlocksOf table.now registers result }
 {
-    if !(1..=REGISTERS_MOST).contains(&registers) || table.len() != registers * BLOCK {
+    if !is_sized(table, registers) {
         return None;
     }
     Some(table.as_chunks().0)
@@ -55,7 +63,7 @@ pub fn sound(table: &[u8], registers: usize) -> Result<&[[u8; BLOCK]], Refusal>
 }
 
 // Whether every block is free or good.
-fn is_sound(blocks: &[[u8; BLOCK]]) -> bool
+pub fn is_sound(blocks: &[[u8; BLOCK]]) -> bool
     ensures { result ≡ none_bad (map slot_of blocks.now) }
 {
     blocks
@@ -63,8 +71,11 @@ fn is_sound(blocks: &[[u8; BLOCK]]) -> bool
         .all(|b| storage_block::state(b) != BlockState::Bad)
 }
 
-// The first block from `start` on that holds the key, by the labelled nested loop that 01 names: a mismatch goes on with the next block,
-// and a match leaves both loops.
+// The first block from `start` on that holds the key, by the labelled nested loop that 01 names and docs/PROMISES.md holds this function to
+// ('The nine forms'): a mismatch goes on with the next block, and a match leaves both loops.
+//
+// That no block is bad is asked here, of `lowest_free` and of `locate`: a type with that fact would be made in `sound` alone, and
+// each of the searches and of their callers would take the blocks out of it again.
 fn next_holding(blocks: &[[u8; BLOCK]], start: usize, key: &[u8]) -> Option<usize>
     requires sound { none_bad (map slot_of blocks.now) ≡ true }
     requires start_le_len { start ≤ length blocks.now }

@@ -22,12 +22,26 @@ use Rattle.acceptor_rules.specs.Rules.{proposed, accepted, proposal, acceptance,
 use Rattle.acceptor.specs.Contract.{Placed, Received}
 use Rattle.acceptor.specs.Outcomes.{Takes, takes_room, takes_readable, twice_received, over_received, propose_block, propose_full, propose_key, accept_block, accept_full, accept_key, accept_value, area_refused, table_refused, kind_refused}
 use Rattle.acceptor.proofs.receive.Goals as goal
-use Rattle.acceptor.proofs.receive.Goals.{in-ProposeReq, in_default-matches, in-Full, in-At, in-At-2, Else-not-matches, After-fits}
+use Rattle.acceptor.specs.declared.Job.{Job}
+use Rattle.acceptor.proofs.receive.Goals.{in-ProposeReq, in-AcceptReq, in-Full, in-At, in-At-2, After-locate, After-fits}
 
 -- ---- the kinds that are for the acceptor
 
-abbrev IsJob : Rpc → Type 0
-IsJob rpc = ((b : Ballot) × (rpc ≡ Rpc.ProposeReq b)) ⊎ ((b : Ballot) × (o : Option Marks.Lent) × (rpc ≡ Rpc.AcceptReq b o))
+abbrev IsJob : Rpc → Job → Type 0
+IsJob rpc j = ((b : Ballot) × (rpc ≡ Rpc.ProposeReq b) × (j ≡ Job.Proposal b)) ⊎ ((b : Ballot) × (o : Option Marks.Lent) × (rpc ≡ Rpc.AcceptReq b o) × (j ≡ Job.Acceptance b o))
+
+proposal_of : (rpc : Rpc) (j : Job) (b : Ballot) → IsJob rpc j → j ≡ Job.Proposal b → rpc ≡ Rpc.ProposeReq b
+proposal_of rpc j b (inl (x, e, f)) h =
+    let same : x ≡ b = cc in
+    rw same at e
+proposal_of rpc j b (inr (x, o, e, f)) h = cc
+
+acceptance_of : (rpc : Rpc) (j : Job) (b : Ballot) (o : Option Marks.Lent) → IsJob rpc j → j ≡ Job.Acceptance b o → rpc ≡ Rpc.AcceptReq b o
+acceptance_of rpc j b o (inl (x, e, f)) h = cc
+acceptance_of rpc j b o (inr (x, y, e, f)) h =
+    let ballot : x ≡ b = cc in
+    let value : y ≡ o = cc in
+    rw (ballot, value) at e
 
 foreign_of : (rpc : Rpc) (k v w l : List ℕ) → ((b : Ballot) → rpc ≡ Rpc.ProposeReq b → ⊥) → ((b : Ballot) (o : Option Marks.Lent) → rpc ≡ Rpc.AcceptReq b o → ⊥) → job_of (message_of rpc k v w l) ≡ None
 foreign_of (Rpc.ProposeReq b) k v w l p q = absurd (p b refl)
@@ -39,11 +53,11 @@ foreign_of Rpc.SetProposeAcceptors k v w l p q = refl
 foreign_of (Rpc.ProposeRes b a o r) k v w l p q = refl
 foreign_of (Rpc.AcceptRes b r) k v w l p q = refl
 
-job_at : (c : goal.Else-not-matches) → IsJob c.args.message.rpc
+job_at : (c : goal.After-locate) → IsJob c.args.message.rpc c.match-message.job
 job_at c =
-    elim c.match-matches.branch [
-      | in-ProposeReq w ↦ w.in-ProposeReq.is
-      | in_default-matches w ↦ cc (w.matches-is, c.if-not-matches.false)
+    elim c.match-message.branch [
+      | in-ProposeReq w ↦ inl (w.in-ProposeReq.ballot, w.in-ProposeReq.is, w.job-is)
+      | in-AcceptReq w ↦ inr (w.in-AcceptReq.ballot, w.in-AcceptReq.o, w.in-AcceptReq.is, w.job-is)
     ]
 
 -- ---- the block that has the key or takes it
@@ -75,18 +89,18 @@ module _ (t : List ℕ) (n : ℕ) (a₀ a : List ℕ) (area : IsWholeChunk a₀ 
     foreign : job_of (message_of rpc k v w l) ≡ None → Received t n a₀ from (message_of rpc k v w l) (Answer.Refused Refusal.WrongKind) t a
     foreign f = rw area.same (kind_refused t n a₀ from (message_of rpc k v w l) lent.sized area.long lent.sound f)
 
-    twice : IsJob rpc → where_is k (slots t n) ≡ Found.Twice → Received t n a₀ from (message_of rpc k v w l) (Answer.Refused Refusal.Damaged) t a
-    twice (inl (b, e)) h = rw (area.same, e) (twice_received t n a₀ from (message_of (Rpc.ProposeReq b) k v w l) (proposal b k) refl lent area.long h)
-    twice (inr (b, o, e)) h = rw (area.same, e) (twice_received t n a₀ from (message_of (Rpc.AcceptReq b o) k v w l) (acceptance b k (given o v)) refl lent area.long h)
+    twice : (j : Job) → IsJob rpc j → where_is k (slots t n) ≡ Found.Twice → Received t n a₀ from (message_of rpc k v w l) (Answer.Refused Refusal.Damaged) t a
+    twice j (inl (b, e, f)) h = rw (area.same, e) (twice_received t n a₀ from (message_of (Rpc.ProposeReq b) k v w l) (proposal b k) refl lent area.long h)
+    twice j (inr (b, o, e, f)) h = rw (area.same, e) (twice_received t n a₀ from (message_of (Rpc.AcceptReq b o) k v w l) (acceptance b k (given o v)) refl lent area.long h)
 
-    over : IsJob rpc → (o : Option ℕ) → Placing t n k o → false ≡ within_limits from (message_of rpc k v w l) → Received t n a₀ from (message_of rpc k v w l) (Answer.Refused Refusal.OverLimit) t a
-    over j o p lim = rw area.same (by j p)
+    over : (job : Job) → IsJob rpc job → (o : Option ℕ) → Placing t n k o → false ≡ within_limits from (message_of rpc k v w l) → Received t n a₀ from (message_of rpc k v w l) (Answer.Refused Refusal.OverLimit) t a
+    over job j o p lim = rw area.same (by j p)
       where
-        at_found : IsJob rpc → (f : Found) → where_is k (slots t n) ≡ f → is_twice f ≡ false → Received t n a₀ from (message_of rpc k v w l) (Answer.Refused Refusal.OverLimit) t a₀
-        at_found (inl (b, e)) f h g = rw e (over_received t n a₀ from (message_of (Rpc.ProposeReq b) k v w l) (proposal b k) refl lent area.long f h g (rw e at (sym lim)))
-        at_found (inr (b, x, e)) f h g = rw e (over_received t n a₀ from (message_of (Rpc.AcceptReq b x) k v w l) (acceptance b k (given x v)) refl lent area.long f h g (rw e at (sym lim)))
+        at_found : IsJob rpc job → (f : Found) → where_is k (slots t n) ≡ f → is_twice f ≡ false → Received t n a₀ from (message_of rpc k v w l) (Answer.Refused Refusal.OverLimit) t a₀
+        at_found (inl (b, e, q)) f h g = rw e (over_received t n a₀ from (message_of (Rpc.ProposeReq b) k v w l) (proposal b k) refl lent area.long f h g (rw e at (sym lim)))
+        at_found (inr (b, x, e, q)) f h g = rw e (over_received t n a₀ from (message_of (Rpc.AcceptReq b x) k v w l) (acceptance b k (given x v)) refl lent area.long f h g (rw e at (sym lim)))
 
-        by : IsJob rpc → Placing t n k o → Received t n a₀ from (message_of rpc k v w l) (Answer.Refused Refusal.OverLimit) t a₀
+        by : IsJob rpc job → Placing t n k o → Received t n a₀ from (message_of rpc k v w l) (Answer.Refused Refusal.OverLimit) t a₀
         by j' (inl (e, h)) = at_found j' Found.Full h refl
         by j' (inr (i, e, inl h)) = at_found j' (Found.At i) h refl
         by j' (inr (i, e, inr h)) = at_found j' (Found.Free i) h refl
@@ -144,43 +158,39 @@ returns-in_default c = area_refused _ _ _ _ _ c.in_default.ensures.cases
 pub returns-in-Err : goal.returns-in-Err
 returns-in-Err c = table _ _ _ _ c.in-Some.ensures.cases _ _ _ _ _ _ _ c.in-Err.ensures
 
-pub returns-then-not-matches : goal.returns-then-not-matches
-returns-then-not-matches c =
-    elim c.match-matches.branch [
-      | in-ProposeReq w ↦ cc (w.matches-is, c.if-not-matches.true)
-      | in_default-matches w ↦
-          foreign _ _ _ _ c.in-Some.ensures.cases _ _ _ _ _ _ c.in-Ok.ensures.lent
-          (foreign_of _ _ _ _ _ (λ b e. w.in_default-matches.not-ProposeReq b e) (λ b o e. w.in_default-matches.not-AcceptReq b o e))
-    ]
+pub returns-in_default-rpc : goal.returns-in_default-rpc
+returns-in_default-rpc c =
+    foreign _ _ _ _ c.in-Some.ensures.cases _ _ _ _ _ _ c.in-Ok.ensures.lent
+    (foreign_of _ _ _ _ _ (λ b e. c.in_default-rpc.not-ProposeReq b e) (λ b o e. c.in_default-rpc.not-AcceptReq b o e))
 
 pub returns-in-Twice : goal.returns-in-Twice
 returns-in-Twice c =
-    twice _ _ _ _ c.in-Some.ensures.cases _ _ _ _ _ _ c.in-Ok.ensures.lent (job_at (goal.at.returns-in-Twice c).Else-not-matches) (found_as _ _ _ c.in-Ok.ensures _ _ c.in-Twice.ensures)
+    twice _ _ _ _ c.in-Some.ensures.cases _ _ _ _ _ _ c.in-Ok.ensures.lent _ (job_at (goal.at.returns-in-Twice c).After-locate) (found_as _ _ _ c.in-Ok.ensures _ _ c.in-Twice.ensures)
 
 pub returns-then-not-fits : goal.returns-then-not-fits
 returns-then-not-fits c =
-    over _ _ _ _ c.in-Some.ensures.cases _ _ _ _ _ _ c.in-Ok.ensures.lent (job_at (goal.at.returns-then-not-fits c).Else-not-matches) _ (placing (goal.at.returns-then-not-fits c).After-fits) c.if-not-fits.ensures
+    over _ _ _ _ c.in-Some.ensures.cases _ _ _ _ _ _ c.in-Ok.ensures.lent _ (job_at (goal.at.returns-then-not-fits c).After-locate) _ (placing (goal.at.returns-then-not-fits c).After-fits) c.if-not-fits.ensures
 
-pub returns-in-ProposeReq-Some : goal.returns-in-ProposeReq-Some
-returns-in-ProposeReq-Some c =
-    proposal_placed (passed (goal.at.returns-in-ProposeReq-Some c).After-fits c.if-not-fits.ensures) _ c.in-ProposeReq-Some.is-0 _ _ _ _ c.in-ProposeReq-Some.is-1 c.propose_at.ensures.0 c.propose_at.ensures.1
+pub returns-in-Proposal-Some : goal.returns-in-Proposal-Some
+returns-in-Proposal-Some c =
+    proposal_placed (passed (goal.at.returns-in-Proposal-Some c).After-fits c.if-not-fits.ensures) _ (proposal_of _ _ _ (job_at (goal.at.returns-in-Proposal-Some c).After-locate) c.in-Proposal-Some.is-0) _ _ _ _ c.in-Proposal-Some.is-1 c.propose_at.ensures.0 c.propose_at.ensures.1
 
-pub returns-in-ProposeReq-None : goal.returns-in-ProposeReq-None
-returns-in-ProposeReq-None c =
-    proposal_full (passed (goal.at.returns-in-ProposeReq-None c).After-fits c.if-not-fits.ensures) _ c.in-ProposeReq-None.is-0 _ c.in-ProposeReq-None.is-1 c.propose_full.ensures
+pub returns-in-Proposal-None : goal.returns-in-Proposal-None
+returns-in-Proposal-None c =
+    proposal_full (passed (goal.at.returns-in-Proposal-None c).After-fits c.if-not-fits.ensures) _ (proposal_of _ _ _ (job_at (goal.at.returns-in-Proposal-None c).After-locate) c.in-Proposal-None.is-0) _ c.in-Proposal-None.is-1 c.propose_full.ensures
 
-pub returns-in-AcceptReq-Some : goal.returns-in-AcceptReq-Some
-returns-in-AcceptReq-Some c =
-    acceptance_placed (passed (goal.at.returns-in-AcceptReq-Some c).After-fits c.if-not-fits.ensures) _ _ c.in-AcceptReq-Some.is-0 _ _ _ c.in-AcceptReq-Some.is-1 c.accept_at.ensures
+pub returns-in-Acceptance-Some : goal.returns-in-Acceptance-Some
+returns-in-Acceptance-Some c =
+    acceptance_placed (passed (goal.at.returns-in-Acceptance-Some c).After-fits c.if-not-fits.ensures) _ _ (acceptance_of _ _ _ _ (job_at (goal.at.returns-in-Acceptance-Some c).After-locate) c.in-Acceptance-Some.is-0) _ _ _ c.in-Acceptance-Some.is-1 c.accept_at.ensures
 
-pub returns-in-AcceptReq-None : goal.returns-in-AcceptReq-None
-returns-in-AcceptReq-None c =
-    acceptance_full (passed (goal.at.returns-in-AcceptReq-None c).After-fits c.if-not-fits.ensures) _ _ c.in-AcceptReq-None.is-0 c.in-AcceptReq-None.is-1
+pub returns-in-Acceptance-None : goal.returns-in-Acceptance-None
+returns-in-Acceptance-None c =
+    acceptance_full (passed (goal.at.returns-in-Acceptance-None c).After-fits c.if-not-fits.ensures) _ _ (acceptance_of _ _ _ _ (job_at (goal.at.returns-in-Acceptance-None c).After-locate) c.in-Acceptance-None.is-0) c.in-Acceptance-None.is-1
 
 pub propose_at-requires : goal.propose_at-requires
 propose_at-requires c =
-    proposal_asks (passed (goal.at.propose_at-requires c).After-fits c.if-not-fits.ensures) _ c.in-ProposeReq-Some.is-0 _ c.in-ProposeReq-Some.is-1
+    proposal_asks (passed (goal.at.propose_at-requires c).After-fits c.if-not-fits.ensures) _ (proposal_of _ _ _ (job_at (goal.at.propose_at-requires c).After-locate) c.in-Proposal-Some.is-0) _ c.in-Proposal-Some.is-1
 
 pub accept_at-requires : goal.accept_at-requires
 accept_at-requires c =
-    acceptance_asks (passed (goal.at.accept_at-requires c).After-fits c.if-not-fits.ensures) _ _ c.in-AcceptReq-Some.is-0 _ c.in-AcceptReq-Some.is-1
+    acceptance_asks (passed (goal.at.accept_at-requires c).After-fits c.if-not-fits.ensures) _ _ (acceptance_of _ _ _ _ (job_at (goal.at.accept_at-requires c).After-locate) c.in-Acceptance-Some.is-0) _ c.in-Acceptance-Some.is-1

@@ -10,11 +10,13 @@ use lib.Seq.{sets}
 use Rattle.proposer_place.specs.Front.{front_bytes, place_rows}
 use Rattle.proposer_area.specs.Places.{place_at, place_in, free_of}
 use Rattle.proposer_area.specs.PlacesLaws.{free_some}
+use Rattle.messages.specs.Answers.{entry_bytes}
+use Rattle.proposer_area.specs.State.{state}
 use Rattle.proposer_area.specs.Held.{Held}
 use Rattle.proposer_area.specs.HeldLaws.{free_place, counter_held}
 use Rattle.proposer_request.specs.Order.{asked_in}
 use Rattle.proposer_request.specs.RequestLaws.{request_held, counter_refused, room_refused, request_sizes, request_small, request_taken}
-use Rattle.proposer_works.specs.Room.{held_header, propose_few, propose_lent, entries_end, entries_sent}
+use Rattle.proposer_works.specs.Room.{held_header, propose_few, entries_end, entries_sent}
 use borrow.Author.Rules.{rules}
 use native.Mathlib.Omega.{arith}
 use Rattle.proposer_request.proofs.request.Goals as goal
@@ -38,20 +40,17 @@ returns-in_default c =
     let o = c.args.order in
     record { worked = room_refused a.bytes.now c.args.answer.now a.places c.header-h.result c.args.from c.args.at c.args.id (asked_in o) a.held c.header-h.ensures.0 a.places (search rules) c.if-h.false (sym c.in_default.ensures) refl; lent = refl; places = refl }
 
-pub slice_bounds-list-end : goal.slice_bounds-list-end
-slice_bounds-list-end c = rw c.bytes.ensures (omega (arith, c.header-h.ensures.1, held_header _ _ c.args.area.now.held))
-
 pub send-sent-requires : goal.send-sent-requires
 send-sent-requires c =
     let a = c.args.area.now in
     let o = c.args.order in
-    (search rules, search rules, (request_sizes c.args.from c.args.id o.req o.key.now o.value.now o.other.now c.requires.1).0, rw c.bytes.ensures (propose_lent a.bytes.now a.places c.header-h.result a.held c.header-h.ensures.0))
+    (search rules, search rules, (request_sizes c.args.from c.args.id o.req o.key.now o.value.now o.other.now c.requires.1).0, rw c.propose_list-list.ensures.1 a.held.lawful.propose.short)
 
 pub slice_bounds-rows-end : goal.slice_bounds-rows-end
 slice_bounds-rows-end c =
     let a = c.args.area.now in
     let header = c.header-h in
-    entries_end c.args.answer.now _ [] c.args.order.key.now (take (50 + 2 * header.result.propose - 50) (drop 50 a.bytes.now)) a.places header.result.propose c.requires.0 (rw c.bytes.ensures at c.send-sent.ensures.0)
+    entries_end c.args.answer.now _ [] c.args.order.key.now (entry_bytes (state a).propose_acceptors) a.places header.result.propose c.requires.0 (rw c.propose_list-list.ensures.0 at c.send-sent.ensures.0)
     (propose_few a.bytes.now a.places header.result a.held header.ensures.0)
 
 pub fill_place-requires : goal.fill_place-requires
@@ -65,7 +64,7 @@ fill_place-requires c =
     let within = free.ensures.1 in
     let sizes = request_sizes c.args.from c.args.id o.req o.key.now o.value.now o.other.now c.requires.1 in
     let few = propose_few a.bytes.now a.places header.result a.held header.ensures.0 in
-    let waited = entries_sent c.args.answer.now _ [] o.key.now (take (50 + 2 * header.result.propose - 50) (drop 50 a.bytes.now)) a.places header.result.propose c.requires.0 (rw c.bytes.ensures at c.send-sent.ensures.0) few in
+    let waited = entries_sent c.args.answer.now _ [] o.key.now (entry_bytes (state a).propose_acceptors) a.places header.result.propose c.requires.0 (rw c.propose_list-list.ensures.0 at c.send-sent.ensures.0) few in
     let first : length c.first.result.now ≤ 256 = rw c.first.ensures sizes.1 in
     let second : length c.second.result.now ≤ 256 = rw c.second.ensures sizes.2 in (
       free_there a.bytes.now a.places free.i a.held free.ensures.0 within,
@@ -86,7 +85,7 @@ filled c =
     let o = c.args.order in
     let header = c.header-h in
     request_held a.bytes.now c.args.answer.now a.places header.result c.args.from c.args.at c.args.id o.req o.key.now o.value.now o.other.now a.held c.requires.0 c.requires.1 header.ensures.0 c.in-Some.i c.first.result.now c.second.result.now c.front-front.result _ _ o.key_numbers o.value_numbers o.other_numbers (search rules) (search rules) (search rules) (search rules) c.if-h.false c.in-Some.ensures.1 c.first.ensures c.second.ensures c.front-front.ensures
-    (rw c.bytes.ensures at c.send-sent.ensures.0) (place_filled c)
+    (rw c.propose_list-list.ensures.0 at c.send-sent.ensures.0) (place_filled c)
 
 pub invariant_of-area : goal.invariant_of-area
 invariant_of-area c = record { held = filled (goal.at.invariant_of-area c).After-fill_place }
@@ -107,7 +106,7 @@ returns c =
     let free = c.in-Some in
     record {
       worked = request_taken a.bytes.now c.args.answer.now a.places header.result c.args.from c.args.at c.args.id o.req o.key.now o.value.now o.other.now a.held c.requires.0 c.requires.1 header.ensures.0 free.i c.first.result.now c.second.result.now c.front-front.result _ _ _ _ o.key_numbers o.value_numbers o.other_numbers (search rules) (search rules) (search rules) (search rules) c.if-h.false free.ensures.0 (omega (arith, free.ensures.1)) (λ e. absurd (omega (arith, free.ensures.1))) c.first.ensures c.second.ensures c.front-front.ensures
-          (rw c.bytes.ensures at c.send-sent.ensures.0) (place_filled (goal.at.returns c).After-fill_place) c.put_counter.ensures (rw c.bytes.ensures at c.send-sent.ensures.1);
+          (rw c.propose_list-list.ensures.0 at c.send-sent.ensures.0) (place_filled (goal.at.returns c).After-fill_place) c.put_counter.ensures (rw c.propose_list-list.ensures.0 at c.send-sent.ensures.1);
       lent = refl;
       places = refl;
     }

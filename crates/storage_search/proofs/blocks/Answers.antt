@@ -1,6 +1,6 @@
 -- `storage_search::blocks` meets its contract: the table's chunks of 512 bytes are its blocks.
 -- Assumes nothing.
-use Rattle.std.proofs.Common.{◌≡◌, refl, List, ℕ, zero, suc, ◌*◌, ◌+◌, ◌/◌, drop, length, ◌∙◌, arith}
+use Rattle.std.proofs.Common.{◌≡◌, refl, sym, true, List, ℕ, zero, suc, ◌*◌, ◌+◌, ◌/◌, drop, length, ◌∙◌, arith}
 use Rattle.std.proofs.lemmas.Grind.{common_steps}
 use Rattle.std.proofs.lemmas.List.{drop-drop}
 use Rattle.std.specs.Simd.{first_chunks}
@@ -21,8 +21,12 @@ chunks t n e =
     let count : length t / 512 ≡ n = omega arith in
     rw count (chunks_from t 0 n)
 
-pub returns : goal.returns
+sized_length : (t : List ℕ) (n : ℕ) → is_sized t n ≡ true → length t ≡ n * 512
 unfolding is_sized
+sized_length t n e = grind (arith, common_steps)
+
+pub returns : goal.returns
 returns c =
-    let all = c.as_chunks.ensures.front ∙ chunks _ _ c.if-table-registers.false in
-    (grind (arith, common_steps), all, slots_of_blocks _ _ _ all)
+    let ok = sym c.is_sized.ensures ∙ c.if-not-is_sized.false in
+    let all = c.as_chunks.ensures.front ∙ chunks _ _ (sized_length _ _ ok) in
+    (ok, all, slots_of_blocks _ _ _ all)

@@ -1,15 +1,14 @@
 -- `storage_write::write` meets its contract: the front, the key and the value, stored into zeros one after the other, are the body, which is then sealed.
 -- Assumes nothing.
-use Rattle.std.specs.Prelude.{Option}
+use Rattle.std.specs.Prelude.{Option, None, Some, option_map, unwrap_or}
+use denote.Ref.{Bor}
 use mathlib.Core.Path.{◌≡◌, refl, ap, ◌∙◌}
-use mathlib.Core.List.{List, ◌++◌, append_assoc, append-nil}
+use mathlib.Core.List.{List, [], ◌++◌, append_assoc, append-nil}
 use Prim.Native.Nat.{ℕ, ◌≤◌}
 use lib.ListN.{length, take, replicate, length-append, length-replicate}
 use lib.Seq.{sets, take_at}
 use Rattle.leaf_fields.specs.Stores.{sets_left, sets_right, sets_zeros}
-use Rattle.messages.specs.Message.{given}
-use Rattle.messages.specs.Fit.{marked-given}
-use Rattle.messages.specs.Answers.{bytes_of}
+use Rattle.messages.specs.Answers.{marked, bytes_of}
 use Rattle.messages.specs.declared.Ballot.{Ballot}
 use Rattle.messages.specs.declared.Lent.{Lent}
 use Rattle.leaf_fields.specs.Fields.{to_le, padded}
@@ -54,15 +53,20 @@ fronted f lf =
     let whole : padded 24 f ≡ f = rw lf (append-nil f) in
     sets_left zeros (replicate 488 0) f 0 (omega (arith, length-replicate {A = ℕ} 24 0)) ∙ ap (λ (r : List ℕ). r ++ replicate 488 0) (sets_zeros 24 f (omega arith) ∙ whole)
 
-written : (b n₀ f n₂ n₃ n₄ n₅ key s bytes : List ℕ) (seen accepted : Ballot) (value : Option Lent) → length b ≡ 512 → n₀ ≡ replicate (length b) 0 → s ≡ bytes_of (given value bytes) → f ≡ front (length key) seen accepted value (length s) → n₂ ≡ sets n₀ 0 f → n₃ ≡ sets n₂ 24 key → n₄ ≡ sets n₃ 88 s → n₅ ≡ sealed (take 504 n₄) → length key ≤ 64 → length (bytes_of (given value bytes)) ≤ 256 → n₅ ≡ image (register key seen accepted (given value bytes))
+written : (b n₀ f n₂ n₃ n₄ n₅ key s : List ℕ) (seen accepted : Ballot) (value : Option (List ℕ)) → length b ≡ 512 → n₀ ≡ replicate (length b) 0 → s ≡ bytes_of value → f ≡ front (length key) seen accepted (marked value) (length s) → n₂ ≡ sets n₀ 0 f → n₃ ≡ sets n₂ 24 key → n₄ ≡ sets n₃ 88 s → n₅ ≡ sealed (take 504 n₄) → length key ≤ 64 → length (bytes_of value) ≤ 256 → n₅ ≡ image (register key seen accepted value)
 unfolding image body
-written b n₀ f n₂ n₃ n₄ n₅ key s bytes seen accepted value l e₀ es ef e₂ e₃ e₄ e₅ hk hv =
-    let lf : length f ≡ 24 = ap length ef ∙ length_front (length key) (length s) seen accepted value in
+written b n₀ f n₂ n₃ n₄ n₅ key s seen accepted value l e₀ es ef e₂ e₃ e₄ e₅ hk hv =
+    let lf : length f ≡ 24 = ap length ef ∙ length_front (length key) (length s) seen accepted (marked value) in
     let zeros : n₀ ≡ replicate 512 0 = e₀ ∙ ap (λ (n : ℕ). replicate n 0) l in
     let placed : n₂ ≡ f ++ replicate 488 0 = e₂ ∙ ap (λ (r : List ℕ). sets r 0 f) zeros ∙ fronted f lf in
     let whole : take 504 n₄ ≡ f ++ (padded 64 key ++ padded 416 s) =
-    ap (take 504) (e₄ ∙ ap (λ (r : List ℕ). sets r 88 s) (e₃ ∙ ap (λ (r : List ℕ). sets r 24 key) placed)) ∙ filled f key s lf hk (short s (bytes_of (given value bytes)) es hv) in
-    e₅ ∙ ap sealed (whole ∙ rw (marked-given value bytes, ef, es))
+    ap (take 504) (e₄ ∙ ap (λ (r : List ℕ). sets r 88 s) (e₃ ∙ ap (λ (r : List ℕ). sets r 24 key) placed)) ∙ filled f key s lf hk (short s (bytes_of value) es hv) in
+    e₅ ∙ ap sealed (whole ∙ rw (ef, es))
+
+-- the bytes of a value that is lent, or none
+stored : (value : Option (Bor (List ℕ))) (n s : Bor (List ℕ)) → n.now ≡ [] → s ≡ unwrap_or value n → s.now ≡ bytes_of (option_map (λ v. v.now) value)
+stored None n s en e = rw e en
+stored (Some v) n s en e = rw e
 
 pub returns : goal.returns
-returns c = search written depth 12
+returns c = written _ _ _ _ _ _ _ _ _ _ _ _ c.told-b c.clear.ensures (stored c.args.r.value _ _ refl c.unwrap_or-stored.ensures) c.front.ensures c.copy.ensures c.copy-2.ensures c.copy-3.ensures c.seal.ensures c.requires.0 c.requires.1

@@ -1,15 +1,17 @@
--- `proposer_area::places::note_no` meets its contract: the lent part is the place.
+-- `proposer_area::places::note_no` meets its contract: what is lent is the place.
 -- Assumes nothing.
 use Rattle.std.proofs.Common.{List, ℕ, Some, length, ◌<◌}
 use Rattle.proposer_rules.specs.State.{with_no}
 use Rattle.proposer_place.specs.Area.{place_image, read_pending}
 use Rattle.proposer_place.specs.Front.{Used}
+use Rattle.proposer_place.specs.PlaceRows.{length-no}
+use Rattle.proposer_area.specs.Places.{place_in}
 use Rattle.proposer_area.specs.PlaceLent.{used_room, lent_has, place_worked}
 use Rattle.proposer_area.proofs.places.note_no.Goals as goal
 
 pub note_no-requires : goal.note_no-requires
-note_no-requires c = (lent_has Used c.args.area.now c.args.i c.place.result c.place.ensures c.requires.0, lent_has (λ (b : List ℕ). length (read_pending b).nacks_from < 15) c.args.area.now c.args.i c.place.result c.place.ensures c.requires.1)
+note_no-requires c = (lent_has _ _ _ _ _ _ c.start.ensures c.split_at_mut-rest.ensures.front c.split_at_mut-rest.ensures.back c.in-Some.ensures.cases Used c.requires.0, lent_has _ _ _ _ _ _ c.start.ensures c.split_at_mut-rest.ensures.front c.split_at_mut-rest.ensures.back c.in-Some.ensures.cases (λ (b : List ℕ). length (read_pending b).nacks_from < 15) c.requires.1)
 
 pub returns : goal.returns
 returns c =
-    place_worked (λ (b : List ℕ). place_image (Some (with_no (read_pending b) c.args.from))) c.args.area.now c.note_no.new.b c.args.i c.place.result c.place.ensures (used_room c.args.area.now c.args.i c.requires.0) c.note_no.auto.b c.note_no.ensures
+    place_worked _ _ _ _ _ _ c.start.ensures c.split_at_mut-rest.ensures.front c.split_at_mut-rest.ensures.back c.in-Some.ensures.cases (λ (b : List ℕ). place_image (Some (with_no (read_pending b) c.args.from))) c.note_no.new.b (used_room c.args.area.now c.args.i c.requires.0) (length-no (place_in c.args.area.now c.args.i) c.requires.0 c.args.from c.requires.1) c.note_no.ensures

@@ -25,9 +25,9 @@ taken b n₁ first n₂ second n₃ value client id ballot promised at phase req
 
 pub returns : goal.returns
 returns c =
-    let known = c.type_inv.b in (
+    let known = c.fits-b in (
       rw (c.from-2.ensures, c.from-3.ensures, c.from-4.ensures, c.from-5.ensures)
-          (taken c.args.b.now _ c.first_from-first.result _ c.second_from-second.result _ c.length_from-value.result _ _ _ _ _ _ _ _ c.requires (λ i. omega (arith, known i)) c.read.ensures c.first_from-first.ensures.0 c.read-2.ensures c.second_from-second.ensures.0 c.read-3.ensures c.length_from-value.ensures.0 c.from.ensures c.req_from.ensures (rw c.into.ensures at c.of_mark.ensures) c.read-4.ensures c.read-5.ensures c.read-6.ensures c.read-7.ensures c.read-8.ensures),
+          (taken c.args.b.now _ c.first_from-first.result _ c.second_from-second.result _ c.length_from-value.result _ _ _ _ _ _ _ _ c.told-b (λ i. omega (arith, known i)) c.read.ensures c.first_from-first.ensures.0 c.read-2.ensures c.second_from-second.ensures.0 c.read-3.ensures c.length_from-value.ensures.0 c.from.ensures c.req_from.ensures (rw c.into.ensures at c.of_mark.ensures) c.read-4.ensures c.read-5.ensures c.read-6.ensures c.read-7.ensures c.read-8.ensures),
       record { key = omega (arith, known 4, c.from-2.ensures); waited = omega (arith, known 48, c.from-3.ensures); yeses = omega (arith, known 49, c.from-4.ensures); noes = omega (arith, known 50, c.from-5.ensures) },
       c.second_from-second.ensures.1,
       c.length_from-value.ensures.1,

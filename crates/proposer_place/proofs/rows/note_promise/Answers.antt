@@ -2,9 +2,8 @@
 -- Assumes nothing.
 use mathlib.Core.Path.{◌≡◌, ap, ◌∙◌}
 use mathlib.Core.Bool.{true}
-use borrow.Author.Tests.{leb-true}
 use mathlib.Core.List.{List}
-use Rattle.std.specs.Prelude.{Option, None, Some}
+use Rattle.std.specs.Prelude.{Option, Some}
 use Prim.Native.Nat.{ℕ, ◌+◌, ◌-◌, ◌*◌, ◌≤◌, ◌<◌}
 use borrow.Rule.Slice.PartMut.{put_mid}
 use lib.ListN.{length, take, drop, replicate}
@@ -22,7 +21,7 @@ use Rattle.proposer_place.specs.declared.front.Front.{Front}
 use Rattle.proposer_rules.specs.State.{with_yes}
 use Rattle.proposer_place.specs.Area.{place_front, place_image, read_pending}
 use Rattle.proposer_place.specs.Front.{front_of, front_bytes, with_promise, Small, Used}
-use Rattle.proposer_place.specs.PlaceRows.{front_promise, promise_added, used_length, used_stored, few_yeses}
+use Rattle.proposer_place.specs.PlaceRows.{front_promise, promise_added, used_length, used_stored, few_yeses, short_value}
 use native.Mathlib.Omega.{arith}
 use Rattle.proposer_place.proofs.rows.note_promise.Goals as goal
 
@@ -30,11 +29,6 @@ small : (b : List ℕ) (f r : Front) (ballot : Ballot) (mark : Option Lent) (n :
 small b f r ballot mark n e few s er =
     let fits : Small (with_promise f ballot mark n) = record { key = s.key; waited = s.waited; yeses = omega (arith, few_yeses b f e few); noes = s.noes } in
     rw er fits
-
--- the value fits its row
-short_value : (mark : Option Lent) (v : List ℕ) → option_fits (given mark v) ≡ true → length (bytes_of (given mark v)) ≤ 256
-short_value None v h = omega arith
-short_value (Some mark) v h = leb-true (length v) 256 h
 
 noted : (b n₁ z n₂ n₃ s v : List ℕ) (f r : Front) (from : Address) (ballot : Ballot) (mark : Option Lent) → Used b → length (read_pending b).acks_from < 15 → option_fits (given mark v) ≡ true → f ≡ front_of (read_pending b) → s ≡ bytes_of (given mark v) → n₁ ≡ sets b (82 + 2 * f.acks_from) (to_le 2 from.0) → z ≡ replicate (length (take (976 - 720) (drop 720 n₁))) 0 → n₂ ≡ sets (put_mid 720 (976 - 720) n₁ z) 720 s → r ≡ with_promise f ballot mark (length (bytes_of (given mark v))) → n₃ ≡ sets n₂ 0 (front_bytes r) → n₃ ≡ place_image (Some (with_yes (read_pending b) from ballot (given mark v)))
 unfolding front_of
@@ -57,11 +51,11 @@ fits_row : (s : List ℕ) (accepted : Accepted) → s ≡ bytes_of (given accept
 fits_row s accepted e = rw e (short_value accepted.mark accepted.bytes.now accepted.fits)
 
 pub copy-requires : goal.copy-requires
-copy-requires c = omega (arith, used_length _ c.requires.0, fits_row _ c.args.accepted c.value.ensures)
+copy-requires c = omega (arith, used_length _ c.requires.0, fits_row _ c.args.accepted c.value-value.ensures)
 
 pub put-requires : goal.put-requires
-put-requires c = (omega (arith, used_length _ c.requires.0), small _ _ _ _ _ _ c.take-f.ensures.0 c.requires.1 c.take-f.ensures.1 c.promised_by.ensures)
+put-requires c = small _ _ _ _ _ _ c.take-f.ensures.0 c.requires.1 c.take-f.ensures.1 c.promised_by.ensures
 
 pub returns : goal.returns
 returns c =
-    noted _ _ _ _ _ _ _ _ _ _ _ _ c.requires.0 c.requires.1 c.args.accepted.fits c.take-f.ensures.0 c.value.ensures c.write.ensures c.clear.ensures c.copy.ensures c.promised_by.ensures c.put.ensures
+    noted _ _ _ _ _ _ _ _ _ _ _ _ c.requires.0 c.requires.1 c.args.accepted.fits c.take-f.ensures.0 c.value-value.ensures c.write.ensures c.clear.ensures c.copy.ensures (rw c.value-value.ensures at c.promised_by.ensures) c.put.ensures

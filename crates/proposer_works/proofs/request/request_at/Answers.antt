@@ -6,8 +6,7 @@ use Rattle.proposer_place.specs.Area.{read_pending}
 use Rattle.proposer_place.specs.Front.{Used}
 use Rattle.proposer_area.specs.Places.{place_in, places_in}
 use Rattle.proposer_area.specs.Turns.{sized_of}
-use Rattle.proposer_area.specs.Chunks.{chunks_all}
-use Rattle.proposer_works.specs.Lent.{place_chunk}
+use Rattle.proposer_area.specs.Chunks.{chunks_all, place_chunk}
 use Rattle.proposer_works.specs.Room.{held_used}
 use Rattle.proposer_works.proofs.request.request_at.Goals as goal
 use Rattle.proposer_works.proofs.request.request_at.Goals.{After-places_in}

@@ -87,6 +87,12 @@ none_of line r z each e =
     let w : words_of line ≡ [] = behind_is 8 [] line ∙ rw e refl in
     record { count = rw w z; each = λ i. rw w (each i) }
 
+-- eight words, each of them empty
+all_empty : (l : List (Bor (List ℕ))) → ((i : ℕ) (d : Bor (List ℕ)) → i < length l → (get_or l i d).now ≡ []) → (i : ℕ) → nth (map (λ w. w.now) l) i ≡ []
+all_empty [] h i = refl
+all_empty (w ∷ l) h zero = h 0 w (omega arith)
+all_empty (w ∷ l) h (suc i) = all_empty l (λ j d k. h (suc j) d (omega (arith, k))) i
+
 too_many : (line : List ℕ) → 8 < length (pieces 32 line) → leb (length (pieces 32 line)) 8 && list_all full (pieces 32 line) ≡ false
 too_many line h = rw (lt-leb _ _ h) refl
 
@@ -116,7 +122,7 @@ returns-then-is_empty c =
     let e = c.into_iter-word-iterator.ensures.into_iter_gives in
     let t = YieldsList-turn (yields_pieces _ 32 c.args.line.now e c.split-word-items.ensures.rest c.split-word-items.ensures.done c.split-word-items.ensures.closure (λ x b q k. search (rules, tests))) c.loop-word.yielded _ c.loop-word.yielded_by _ _ c.in-Some.word c.in-Some.is c.next.ensures.steps in
     let h = here _ _ _ _ t c.loop-word.invariant.count in
-    none_of _ _ c.none.ensures.0 c.none.ensures.1 (
+    none_of _ _ c.default.ensures.0 (all_empty _ (λ i d k. c.default.ensures.1.at i d (omega (arith, k, c.default.ensures.1.long)))) (
     elim c.then-is_empty.either [
       | inl e ↦ has_empty c.args.line.now c.loop-word.n h.0 (rw (← h.1, ← c.is_empty.ensures, e) refl)
       | inr e ↦ too_many c.args.line.now (rw e.1 at h.0)
