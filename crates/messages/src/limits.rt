@@ -70,6 +70,7 @@ fn response_fits(response: Result<Option<Lent>, Error>, value: &[u8], other: &[u
     }
 }
 
+// The parts one by one, as `request_of` takes them: an `Incoming` has a whole message.
 fn req_fits(req: Req, key: &[u8], value: &[u8], other: &[u8]) -> bool
     ensures { result ≡ request_fits (request_of req key.now value.now other.now) }
 {

@@ -118,7 +118,8 @@ fn put_req<const N: usize>(out: &mut Output<N>, req: Req, key: &[u8], value: &[u
     }
 }
 
-// A list is not part of an answer, so the two messages with one have an empty one.
+// A list is not part of an answer, so the two messages with one have an empty one. The parts one by one, here and in `put_req`, as
+// `message_of` and `request_of` take them: an `Incoming` would be made with an empty list by each caller and taken apart here.
 pub fn put_message<const N: usize>(
     out: &mut Output<N>,
     rpc: Rpc,

@@ -85,7 +85,8 @@ fn write_register(b: &mut [u8; BLOCK], r: Register) -> Result<(), Refusal>
     if r.accepted.above(r.seen) {
         return Err(Refusal::Damaged);
     }
-    if KEY_MOST < r.key.len() || r.value.is_some_and(|v| VALUE_MOST < v.len()) {
+    let mark = r.value.and(Some(Lent));
+    if !messages::register_fits(r.key, mark, r.value.unwrap_or(b"")) {
         return Err(Refusal::OverLimit);
     }
     storage_write::write(b, r);
