@@ -1,5 +1,5 @@
 // A line of a script: which step it is, and its bytes in lent buffers.
-ghost use Rattle.std.specs.Prelude.{◌≡◌, cond, unwrap_or};
+ghost use Rattle.std.specs.Prelude.{◌≡◌};
 ghost use Rattle.script_words.specs.Text.{number_of, address_of, bytes_word, list_word};
 ghost use Rattle.script_words.specs.Split.{word_at};
 ghost use Rattle.script_message.specs.Messages.{message_in};
@@ -161,22 +161,22 @@ fn is_passed(line: &[u8]) -> bool
     matches!(line, [] | [b'#', ..])
 }
 
-// The step of a line with these words.
-fn step_of(line: &[u8], words: &Words<'_>) -> Step
-    ensures { result ≡ cond (is_passed line.now) Step.Pass (unwrap_or (step_in (word_at words.now) words.now.n) Step.Unreadable) }
-{
-    if is_passed(line) {
-        return Step::Pass;
-    }
-    read_step(words).unwrap_or(Step::Unreadable)
-}
-
 // A line's step, and its bytes and numbers at the fronts of the lent buffers.
 pub fn read(line: &[u8], bytes: &mut [u8], list: &mut [u16]) -> Line
     ensures { Read line.now bytes.old list.old result bytes.new list.new }
 {
+    // before it is split: a remark has no words that are looked at, and it may be long
+    if is_passed(line) {
+        return Line {
+            step: Step::Pass,
+            key: 0,
+            value: 0,
+            other: 0,
+            list: 0,
+        };
+    }
     let words = split(line);
-    let step = step_of(line, &words);
+    let step = read_step(&words).unwrap_or(Step::Unreadable);
     let places = step_places(step);
     let key = unhex(word_in(&words, places.key), bytes, 0);
     let value = unhex(word_in(&words, places.value), bytes, key);

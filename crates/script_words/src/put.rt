@@ -23,19 +23,31 @@ pub fn put_text(out: &mut [u8], at: usize, text: &[u8]) -> usize
 pub fn put_byte(out: &mut [u8], at: usize, b: u8) -> usize
     ensures { Put out.old at (b ∷ []) result out.new }
 {
-    put_text(out, at, &[b])
+    if out.len() <= at {
+        return out.len();
+    }
+    out[at] = b;
+    at + 1
 }
 
 // In decimal, with no zeros in front.
 pub fn put_number(out: &mut [u8], at: usize, n: u64) -> usize
     ensures { Put out.old at (decimal n) result out.new }
 {
-    let last = if 10 <= n {
-        put_number(out, at, n / 10)
-    } else {
-        at
-    };
-    put_byte(out, last, b'0' + (n % 10) as u8)
+    // at most twenty digits, the last one first, and then all of them as one text
+    let mut digits = [b'0'; 20];
+    let mut rest = n;
+    // a `while`, since behind it `i` is where the text begins
+    let mut i = 20;
+    while 0 < i {
+        i -= 1;
+        digits[i] = b'0' + (rest % 10) as u8;
+        if rest < 10 {
+            return put_text(out, at, &digits[i..]);
+        }
+        rest /= 10;
+    }
+    put_text(out, at, &digits[i..])
 }
 
 // Two hex digits for each byte.
@@ -45,7 +57,8 @@ pub fn put_hex(out: &mut [u8], at: usize, bytes: &[u8]) -> usize
     // a `for` and no `fold`: what a closure changes behind a borrow, as `out` would be, is not told
     let mut end = at;
     for b in bytes {
-        end = put_text(out, end, &[hex_digit(b / 16), hex_digit(b % 16)]);
+        let next = put_byte(out, end, hex_digit(b / 16));
+        end = put_byte(out, next, hex_digit(b % 16));
     }
     end.min(out.len())
 }
@@ -61,11 +74,12 @@ fn hex_digit(n: u8) -> u8
     }
 }
 
-// At most `N` bytes that are put out: fixed memory, so an array with a count.
+// At most `N` bytes that are put out: fixed memory, so an array with a count. Both are public: in another crate too a function over a lent
+// buffer is one over an `Output` in a line (script_answer/src/output.rt), and who writes them proves that the count is within the array.
 #[derive(Drop)]
 pub struct Output<const N: usize> {
-    bytes: [u8; N],
-    len: usize,
+    pub bytes: [u8; N],
+    pub len: usize,
 }
 
 // A clause sees the bytes that were put.
