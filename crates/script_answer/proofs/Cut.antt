@@ -7,8 +7,7 @@ use Rattle.std.proofs.lemmas.Bool.{leb-false, leb-true, lt-leb}
 use Rattle.std.proofs.lemmas.List.{take-append-le}
 use Rattle.leaf_fields.specs.Fields.{from_le, part}
 use Rattle.script_words.specs.Letters.{letters}
-use Rattle.script_words.specs.Written.{put, decimal}
-use Rattle.script_words.specs.WrittenLaws.{less_left, none_left}
+use Rattle.script_words.specs.Written.{decimal}
 use Rattle.script_answer.specs.Lines.{entries_text, row_text, row_in, rows_text, entries_in, rows_in}
 
 -- m bytes that have room behind k bytes
@@ -45,17 +44,17 @@ first_entry row rest n h =
     let fits : 2 ≤ length (row ++ rest) = rw (length-append row rest) (omega arith) in
     rw (le-leb 2 (length (row ++ rest)) fits, part_front row rest 0 2 (omega arith), ← entries_behind (row ++ rest) 2 0 n, behind row rest 2 h)
 
-pub entries_turn : (n : ℕ) (out next row rest rest' whole : List ℕ) (m m' : ℕ) → rest ≡ row ++ rest' → length row ≡ 2 → m' + 1 ≡ m → next ≡ put n out (letters "," ++ decimal (from_le (part row 0 2))) → put n out (entries_text (entries_in rest 0 m)) ≡ whole → put n next (entries_text (entries_in rest' 0 m')) ≡ whole
+pub entries_turn : (row rest rest' : List ℕ) (m m' : ℕ) → rest ≡ row ++ rest' → length row ≡ 2 → m' + 1 ≡ m → entries_text (entries_in rest 0 m) ≡ (letters "," ++ decimal (from_le (part row 0 2))) ++ entries_text (entries_in rest' 0 m')
 unfolding entries_text
-entries_turn n out next row rest rest' whole m m' cut size less more e =
+entries_turn row rest rest' m m' cut size less =
     let k : m ≡ suc m' = omega arith in
     let f : entries_in rest 0 m ≡ from_le (part row 0 2) ∷ entries_in rest' 0 m' = rw (cut, k) (first_entry row rest' m' size) in
-    less_left n out next (entries_text (entries_in rest 0 m)) (letters "," ++ decimal (from_le (part row 0 2))) (entries_text (entries_in rest' 0 m')) whole more (rw f) e
+    rw f
 
-pub entries_end : (n : ℕ) (out rest whole : List ℕ) (m : ℕ) → (0 < m → length rest < 2) → put n out (entries_text (entries_in rest 0 m)) ≡ whole → out ≡ whole
+pub entries_end : (rest : List ℕ) (m : ℕ) → (0 < m → length rest < 2) → entries_text (entries_in rest 0 m) ≡ []
 unfolding entries_in entries_text
-entries_end n out rest whole zero h e = none_left n out [] whole refl e
-entries_end n out rest whole (suc m) h e = none_left n out [] whole refl (rw (lt-leb 2 (length rest) (h (omega arith))) at e)
+entries_end rest zero h = refl
+entries_end rest (suc m) h = rw (lt-leb 2 (length rest) (h (omega arith)))
 
 -- ---- rows
 
@@ -73,14 +72,14 @@ first_row row rest n h =
     let fits : 10 ≤ length (row ++ rest) = rw (length-append row rest) (omega arith) in
     rw (le-leb 10 (length (row ++ rest)) fits, part_front row rest 0 2 (omega arith), part_front row rest 2 8 (omega arith), ← rows_behind (row ++ rest) 10 0 n, behind row rest 10 h)
 
-pub rows_turn : (n : ℕ) (out next row rest rest' whole : List ℕ) (m m' : ℕ) → rest ≡ row ++ rest' → length row ≡ 10 → m' + 1 ≡ m → next ≡ put n out (row_text (row_in row 0)) → put n out (rows_text (rows_in rest 0 m)) ≡ whole → put n next (rows_text (rows_in rest' 0 m')) ≡ whole
+pub rows_turn : (row rest rest' : List ℕ) (m m' : ℕ) → rest ≡ row ++ rest' → length row ≡ 10 → m' + 1 ≡ m → rows_text (rows_in rest 0 m) ≡ row_text (row_in row 0) ++ rows_text (rows_in rest' 0 m')
 unfolding rows_text
-rows_turn n out next row rest rest' whole m m' cut size less more e =
+rows_turn row rest rest' m m' cut size less =
     let k : m ≡ suc m' = omega arith in
     let f : rows_in rest 0 m ≡ row_in row 0 ∷ rows_in rest' 0 m' = rw (cut, k) (first_row row rest' m' size) in
-    less_left n out next (rows_text (rows_in rest 0 m)) (row_text (row_in row 0)) (rows_text (rows_in rest' 0 m')) whole more (rw f) e
+    rw f
 
-pub rows_end : (n : ℕ) (out rest whole : List ℕ) (m : ℕ) → (0 < m → length rest < 10) → put n out (rows_text (rows_in rest 0 m)) ≡ whole → out ≡ whole
+pub rows_end : (rest : List ℕ) (m : ℕ) → (0 < m → length rest < 10) → rows_text (rows_in rest 0 m) ≡ []
 unfolding rows_in rows_text
-rows_end n out rest whole zero h e = none_left n out [] whole refl e
-rows_end n out rest whole (suc m) h e = none_left n out [] whole refl (rw (lt-leb 10 (length rest) (h (omega arith))) at e)
+rows_end rest zero h = refl
+rows_end rest (suc m) h = rw (lt-leb 10 (length rest) (h (omega arith)))

@@ -2,12 +2,12 @@
 -- Assumes nothing.
 use Rattle.std.proofs.Common.{◌≡◌}
 use Rattle.messages.specs.Answers.{entries_at}
-use Rattle.script_words.specs.Written.{put}
+use Rattle.script_words.specs.LentLaws.{Left}
 use Rattle.script_answer.specs.Lines.{list_text, entries_text, entries_in}
 use Rattle.script_answer.proofs.answer.put_list.Given as goal
 
 abbrev pub invariant-loop-entry : goal.invariant-loop-entry
-invariant-loop-entry g l = record {
+invariant-loop-entry l = record {
   size : l.entry-iterator.iter.size ≡ 2;
-  left : put g.row.N l.out (entries_text (entries_in l.entry-iterator.iter.rest.now 0 l.entry-iterator.n)) ≡ put g.row.N l.fn.out (list_text (entries_in l.area entries_at l.n));
+  left : Left l.fn.out l.at (list_text (entries_in l.area entries_at l.n)) l.out l.end (entries_text (entries_in l.entry-iterator.iter.rest.now 0 l.entry-iterator.n));
 }
