@@ -2,3 +2,4 @@ pub mod Run
 pub mod State
 pub mod Obeyed
 pub mod Laws
+pub mod Moved

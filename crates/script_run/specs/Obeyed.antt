@@ -1,6 +1,6 @@
 -- What each step of a script does (docs/SCRIPT.md): where the run then stands, every byte of the table or area and of the answer area, and the text that it puts out. A message, a tick and a start are the party's own rules on what is lent to it.
 -- Assumes nothing.
-use Rattle.std.specs.Prelude.{◌≡◌, Bool, true, false, not, ◌&&◌, cond, List, [], ◌++◌, ℕ, zero, suc, ◌+◌, ◌-◌, ◌*◌, eqb, leb, ltb, length, take, drop, replicate, Option, None, Some}
+use Rattle.std.specs.Prelude.{◌≡◌, Bool, true, false, not, ◌&&◌, cond, List, [], ◌++◌, ℕ, zero, suc, ◌+◌, ◌-◌, ◌*◌, ◌≤◌, eqb, leb, ltb, length, take, drop, replicate, Option, None, Some}
 use Rattle.std.proofs.lemmas.List.Edits.{sets}
 use Rattle.messages.specs.declared.Address.{Address}
 use Rattle.messages.specs.declared.answer.Answer.{Answer}
@@ -16,12 +16,13 @@ use Rattle.proposer_works.specs.Works.{answer_bytes}
 use Rattle.proposer.specs.Contract as Proposer
 use Rattle.script_words.specs.Letters.{letters}
 use Rattle.script_words.specs.Written.{put, decimal}
+use Rattle.script_words.specs.LentLaws.{Put}
 use Rattle.script_answer.specs.Lines.{answer_line, area_line, block_line}
 use Rattle.script.specs.declared.step.Step.{Step}
 use Rattle.script.specs.Read.{step_of, key_of, value_of, other_of, numbers_of}
 use Rattle.script_run.specs.declared.run.Party.{Party}
 use Rattle.script_run.specs.declared.run.Run.{Run}
-use Rattle.script_run.specs.Run.{timed, lending, reached, begun, over}
+use Rattle.script_run.specs.Run.{put_up_to, timed, lending, reached, begun, over}
 use Rattle.script_run.specs.State.{State}
 
 -- ---- the outcome of a step
@@ -208,3 +209,25 @@ unfoldable pub obeyed : Run → List ℕ → List ℕ → ℕ → List ℕ → R
 obeyed s t a line text =
     cond (ltb line_most (length text)) (unreadable s t a line)
     (taken_in s t a line (step_of text) (key_of text) (value_of text) (other_of text) (numbers_of text))
+
+-- ---- the contract of a step
+
+-- a run, its table, its answer area and its output: the parts that it lends and writes are within its buffers
+abbrev pub Held : Run → List ℕ → List ℕ → List ℕ → Type 0
+Held s table area out = (s.bytes ≤ length table) × (s.reach ≤ length table) × (s.area ≤ length area) × (s.at ≤ length out)
+
+-- the run stands where the outcome says, every byte of the areas is the outcome's, and its text is put behind what stood in the output
+pub record Stepped (s : Run) (out : List ℕ) (o : Ran) (r : Run) (t' a' out' : List ℕ) : Type 0 where
+  pub run : r ≡ put_up_to o.run r.at
+  pub table : t' ≡ o.table
+  pub area : a' ≡ o.area
+  pub put : Put out s.at o.text r.at out'
+  pub held : Held r t' a' out'
+
+-- the same of an output that knows how far it is written: the run's place stays 0
+pub record Follows (n : ℕ) (put_out : List ℕ) (o : Ran) (r : Run) (t' a' out' : List ℕ) : Type 0 where
+  pub run : r ≡ o.run
+  pub table : t' ≡ o.table
+  pub area : a' ≡ o.area
+  pub out : out' ≡ put n put_out o.text
+  pub held : (r.bytes ≤ length t') × (r.reach ≤ length t') × (r.area ≤ length a') × (r.at ≡ 0)

@@ -1,6 +1,6 @@
 -- Where a run of a script stands, and how a step changes it.
 -- Assumes nothing.
-use Rattle.std.specs.Prelude.{true, false, ℕ, max, None, Some}
+use Rattle.std.specs.Prelude.{true, false, ℕ, max, Option, None, Some}
 use Rattle.script_run.specs.declared.run.Party.{Party}
 use Rattle.script_run.specs.declared.run.Run.{Run}
 
@@ -12,7 +12,21 @@ fresh = record {
   bytes = 0;
   area = 0;
   reach = 0;
+  at = 0;
   ended = false;
+}
+
+-- the output is written up to a place
+abbrev pub put_up_to : Run → ℕ → Run
+put_up_to s at = record {
+  party = s.party;
+  clock = s.clock;
+  capacity = s.capacity;
+  bytes = s.bytes;
+  area = s.area;
+  reach = s.reach;
+  at = at;
+  ended = s.ended;
 }
 
 -- messages carry this time from now on
@@ -24,6 +38,7 @@ timed s time = record {
   bytes = s.bytes;
   area = s.area;
   reach = s.reach;
+  at = s.at;
   ended = s.ended;
 }
 
@@ -36,6 +51,7 @@ reached s to = record {
   bytes = s.bytes;
   area = s.area;
   reach = max s.reach to;
+  at = s.at;
   ended = s.ended;
 }
 
@@ -48,6 +64,7 @@ begun s party = record {
   bytes = s.bytes;
   area = s.area;
   reach = 0;
+  at = s.at;
   ended = s.ended;
 }
 
@@ -60,6 +77,33 @@ lending s capacity bytes area = record {
   bytes = bytes;
   area = area;
   reach = max s.reach bytes;
+  at = s.at;
+  ended = s.ended;
+}
+
+-- the table is zeros throughout
+abbrev pub cleared : Run → Run
+cleared s = record {
+  party = s.party;
+  clock = s.clock;
+  capacity = s.capacity;
+  bytes = s.bytes;
+  area = s.area;
+  reach = 0;
+  at = s.at;
+  ended = s.ended;
+}
+
+-- this party, or none, is lent this from now on
+abbrev pub lending_to : Run → Option Party → ℕ → ℕ → ℕ → Run
+lending_to s party capacity bytes area = record {
+  party = party;
+  clock = s.clock;
+  capacity = capacity;
+  bytes = bytes;
+  area = area;
+  reach = max s.reach bytes;
+  at = s.at;
   ended = s.ended;
 }
 
@@ -71,5 +115,6 @@ over s = record {
   bytes = s.bytes;
   area = s.area;
   reach = s.reach;
+  at = s.at;
   ended = true;
 }

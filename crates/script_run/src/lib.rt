@@ -1,46 +1,23 @@
-// A run of a script (docs/SCRIPT.md): what is lent to its party, and one line after the other on it. Nothing but the run's own buffers is
-// read or written.
-#![tactic(auto, using(script_words::specs::WrittenLaws::put_nothing), unfolding(crate::specs::Obeyed::taken_in, crate::specs::Obeyed::obeyed))]
+// A run of a script (docs/SCRIPT.md): what is lent to its party, and one line after the other on it. Nothing but what is lent, or a `Bench`
+// has, is read or written.
+#![tactic(auto)]
 
+mod bench;
 mod party;
 mod run;
 mod show;
 mod start;
 
-ghost use Rattle.std.specs.Prelude.{◌≡◌, false, [], replicate};
-ghost use Rattle.script_run.specs.Run.{fresh};
-ghost use Rattle.script_run.specs.State.{state};
-ghost use Rattle.script_run.specs.Obeyed.{after, lacks_party, taken_in, obeyed};
+ghost use Rattle.std.specs.Prelude.{◌≡◌, ◌≤◌, false, length};
+ghost use Rattle.script_run.specs.Obeyed.{is_started, lacks_party, taken_in, obeyed, Held, Stepped};
 
+pub use bench::Bench;
 use messages::Incoming;
-use run::Run;
+pub use run::{Party, Run};
 use script::Step;
-use script_words::{BYTES_MOST, LIST_ROOM, Output};
-use std::marker::Model;
 
 // The longest line that is read.
 const LINE_MOST: usize = 4096;
-
-// A run, with room for a table or a proposer's area, for an answer area and for what it puts out.
-#[derive(Drop)]
-pub struct Bench<const TABLE: usize, const AREA: usize, const OUT: usize> {
-    run: Run,
-    table: [u8; TABLE],
-    area: [u8; AREA],
-    out: Output<OUT>,
-}
-
-// What is lent is within the room.
-impl<const TABLE: usize, const AREA: usize, const OUT: usize> Model for Bench<TABLE, AREA, OUT> {
-    ghost use Rattle.std.specs.Prelude.{◌≤◌};
-    ghost use Rattle.script_run.specs.State.{State};
-
-    ghost Value = { State };
-
-    ghost view = { λ b. record { run = b.run; table = b.table; area = b.area; out = b.out } };
-
-    ghost invariant = { λ b. (b.run.bytes ≤ TABLE) × (b.run.reach ≤ TABLE) × (b.run.area ≤ AREA) };
-}
 
 // Whether a step is one on a party.
 fn needs_party(step: Step) -> bool
@@ -57,92 +34,93 @@ fn needs_party(step: Step) -> bool
     )
 }
 
-impl<const TABLE: usize, const AREA: usize, const OUT: usize> Bench<TABLE, AREA, OUT> {
-    pub fn new() -> Self
-        ensures { result ≡ state fresh (replicate TABLE 0) (replicate AREA 0) [] }
-    {
-        Bench {
-            run: Run::default(),
-            table: [0; TABLE],
-            area: [0; AREA],
-            out: Output::new(),
+// Whether a step is one on a party and there is none yet.
+fn lacks_party(step: Step, party: Option<Party>) -> bool
+    ensures { result ≡ lacks_party step (is_started party) }
+{
+    match party {
+        None => needs_party(step),
+        Some(_) => false,
+    }
+}
+
+// A step that was read, and its bytes. They go one by one: an `Incoming` has a message, and most steps are none.
+fn take(
+    run: Run,
+    step: Step,
+    table: &mut [u8],
+    area: &mut [u8],
+    out: &mut [u8],
+    line: u64,
+    key: &[u8],
+    value: &[u8],
+    other: &[u8],
+    list: &[u16],
+) -> Run
+    requires { Held run table.old area.old out.old }
+    ensures { Stepped run out.old (taken_in run table.old area.old line step key.now value.now other.now list.now) result table.new area.new out.new }
+{
+    if lacks_party(step, run.party) {
+        return start::stop(run, table, area, out, line, b": no party yet\n");
+    }
+    match step {
+        Step::Pass => run,
+        Step::Acceptor(registers) => start::start_acceptor(run, table, area, out, line, registers),
+        Step::Proposer(places, timeout) => start::start_proposer(
+            run, table, area, out, line, places, timeout, list,
+        ),
+        Step::Clock(time) => run.timed(time),
+        Step::Lend {
+            capacity,
+            bytes,
+            area: n,
+        } => start::lend(run, table, area, out, line, capacity, bytes, n),
+        Step::Poke(at) => start::poke(run, table, area, out, line, at, value),
+        Step::Table => show::show_table(run, table, area, out),
+        Step::Area => show::show_area(run, table, area, out),
+        Step::Tick(time) => party::tick(run, table, area, out, time),
+        Step::Message(from, rpc) => {
+            let message = Incoming {
+                rpc,
+                key,
+                value,
+                other,
+                list,
+            };
+            party::send(run, table, area, out, from, message)
         }
+        Step::Unreadable => start::unreadable(run, table, area, out, line),
     }
+}
 
-    // Whether the run is over.
-    pub fn ended(&self) -> bool
-        ensures { result ≡ self.now.run.ended }
-    {
-        self.run.ended
+// A line of the script. The buffers `bytes` and `list` take its bytes and numbers, and `out` its text, behind what was put out.
+pub fn obey(
+    run: Run,
+    text: &[u8],
+    line: u64,
+    table: &mut [u8],
+    area: &mut [u8],
+    out: &mut [u8],
+    bytes: &mut [u8],
+    list: &mut [u16],
+) -> Run
+    requires { (Held run table.old area.old out.old) × (1800 ≤ length bytes.old) × (32 ≤ length list.old) }
+    ensures { Stepped run out.old (obeyed run table.old area.old line text.now) result table.new area.new out.new }
+{
+    if LINE_MOST < text.len() {
+        return start::unreadable(run, table, area, out, line);
     }
-
-    // What was put out.
-    pub fn out(&self) -> &Output<OUT>
-        ensures { result.now ≡ self.now.out }
-    {
-        &self.out
-    }
-
-    // What was put out is taken away.
-    pub fn clear_out(&mut self)
-        ensures { self.new ≡ state self.old.run self.old.table self.old.area [] }
-    {
-        self.out.clear();
-    }
-
-    // A step that was read, and its bytes. They go one by one: an `Incoming` has a message, and most steps are none.
-    fn take(&mut self, step: Step, line: u64, key: &[u8], value: &[u8], other: &[u8], list: &[u16])
-        ensures { self.new ≡ after OUT self.old (taken_in self.old.run self.old.table self.old.area line step key.now value.now other.now list.now) }
-    {
-        if self.run.party.is_none() && needs_party(step) {
-            return self.stop(line, b": no party yet\n");
-        }
-        match step {
-            Step::Pass => {}
-            Step::Acceptor(registers) => self.start_acceptor(line, registers),
-            Step::Proposer(places, timeout) => self.start_proposer(line, places, timeout, list),
-            Step::Clock(time) => self.run.clock = time,
-            Step::Lend {
-                capacity,
-                bytes,
-                area,
-            } => self.lend(line, capacity, bytes, area),
-            Step::Poke(at) => self.poke(line, at, value),
-            Step::Table => self.show_table(),
-            Step::Area => self.show_area(),
-            Step::Tick(time) => self.tick(time),
-            Step::Message(from, rpc) => {
-                let message = Incoming {
-                    rpc,
-                    key,
-                    value,
-                    other,
-                    list,
-                };
-                self.send(from, message)
-            }
-            Step::Unreadable => self.unreadable(line),
-        }
-    }
-
-    // A line of the script.
-    pub fn obey(&mut self, text: &[u8], line: u64)
-        ensures { self.new ≡ after OUT self.old (obeyed self.old.run self.old.table self.old.area line text.now) }
-    {
-        if LINE_MOST < text.len() {
-            return self.unreadable(line);
-        }
-        // fixed memory: room for three words of the most bytes that one can give, and for the longest list
-        let mut bytes = [0; 3 * BYTES_MOST];
-        let mut list = [0; LIST_ROOM];
-        let read = script::read(text, &mut bytes, &mut list);
-        self.take(
-            read.step,
-            line,
-            &bytes[..read.key],
-            &bytes[read.key..read.value],
-            &bytes[read.value..read.other],
-            &list[..read.list],
-        )
-    }
+    let read = script::read(text, bytes, list);
+    take(
+        run,
+        read.step,
+        table,
+        area,
+        out,
+        line,
+        &bytes[0..read.key],
+        &bytes[read.key..read.value],
+        &bytes[read.value..read.other],
+        &list[0..read.list],
+    )
 }
