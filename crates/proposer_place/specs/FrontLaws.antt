@@ -49,6 +49,14 @@ unfolding front_bytes mark_bytes number_bytes count_bytes front_of place_front t
 front_bytes_lem p =
     rw (phase_same p.phase, kind_same p.req, first_same p.req, second_same p.req, mark_same p.value)
 
+pub length_marks : (f : Front) → length (mark_bytes f) ≡ 8
+unfolding mark_bytes
+length_marks f = refl
+
+pub length_numbers : (f : Front) → length (number_bytes f) ≡ 40
+unfolding number_bytes to_le
+length_numbers f = refl
+
 pub length-front_bytes : (f : Front) → length (front_bytes f) ≡ waited_at
 unfolding front_bytes mark_bytes number_bytes count_bytes to_le
 length-front_bytes f = refl

@@ -5,6 +5,7 @@ ghost use Rattle.std.proofs.lemmas.List.Edits.{sets};
 ghost use Rattle.leaf_fields.specs.Fields.{byte};
 ghost use Rattle.proposer_place.specs.Area.{
   used_at,
+  waited_at,
   flag_byte,
   phase_from,
   read_pending,
@@ -248,11 +249,12 @@ fn marks(req: Req) -> (u8, u8)
     }
 }
 
-// The front of a place, put back. `Small` is no ghost field of `Front`: `second_phase` and `again` above are public and take any number of
-// entries, and would have to require that it fits a byte. The three lengths are put by their width: tried with `write` of an `as u16`,
-// where `overflow_cast` stayed open, since `Small` bounds the single bytes alone.
-pub fn put(b: &mut [u8; PLACE], f: Front)
-    requires { Small f }
+// The front of a place, put back: it asks for its own bytes alone, and not for the place behind them. `Small` is no ghost field of `Front`:
+// `second_phase` and `again` above are public and take any number of entries, and would have to require that it fits a byte. The three
+// lengths are put by their width: tried with `write` of an `as u16`, where `overflow_cast` stayed open, since `Small` bounds the single
+// bytes alone.
+pub fn put(b: &mut [u8], f: Front)
+    requires { (waited_at ≤ length b.old) × (Small f) }
     ensures { b.new ≡ sets b.old 0 (front_bytes f) }
 {
     let (first, second) = marks(f.req);

@@ -54,7 +54,7 @@ pub copy-requires : goal.copy-requires
 copy-requires c = omega (arith, used_length _ c.requires.0, fits_row _ c.args.accepted c.value-value.ensures)
 
 pub put-requires : goal.put-requires
-put-requires c = small _ _ _ _ _ _ c.take-f.ensures.0 c.requires.1 c.take-f.ensures.1 c.promised_by.ensures
+put-requires c = (omega (arith, used_length _ c.requires.0), small _ _ _ _ _ _ c.take-f.ensures.0 c.requires.1 c.take-f.ensures.1 c.promised_by.ensures)
 
 pub returns : goal.returns
 returns c =

@@ -12,7 +12,7 @@ use Rattle.proposer_place.specs.declared.front.Front.{Front}
 use Rattle.proposer_rules.specs.State.{with_yes}
 use Rattle.proposer_place.specs.Area.{place_image, read_pending}
 use Rattle.proposer_place.specs.Front.{front_of, front_bytes, Small, Used}
-use Rattle.proposer_place.specs.PlaceRows.{one_more_yes, front_yes, yes_added, few_yeses}
+use Rattle.proposer_place.specs.PlaceRows.{one_more_yes, front_yes, yes_added, few_yeses, room_front}
 use native.Mathlib.Omega.{arith}
 use Rattle.proposer_place.proofs.rows.note_yes.Goals as goal
 
@@ -30,7 +30,7 @@ noted b n₁ n₂ f from u few e e₁ e₂ =
     ∙ yes_added p u.lawful from few
 
 pub put-requires : goal.put-requires
-put-requires c = search small depth 9
+put-requires c = (search room_front, search small depth 9)
 
 pub returns : goal.returns
 returns c = noted _ _ _ c.take-f.result c.args.from c.requires.0 c.requires.1 c.take-f.ensures.0 c.write.ensures c.put.ensures
