@@ -3,6 +3,7 @@
 use Rattle.std.specs.Prelude.{◌≡◌, refl, Bool, true, false, cond, not, ◌&&◌, List, [], ◌∷◌, map, length, get_or, take, drop}
 use Rattle.std.proofs.Common.{ap, sym, ◌∙◌, drop-drop, eqb, ltb-true, ltb-false}
 use lib.Dec.{ltb}
+use Rattle.std.proofs.lemmas.List.{get_or-map}
 use Rattle.std.proofs.lemmas.List.Sums.{prefix_len-le-length}
 use Prim.Native.Nat.{ℕ, zero, suc, ◌+◌, ◌*◌, ◌≤◌, ◌<◌}
 use native.Mathlib.Omega.{arith}
@@ -111,3 +112,10 @@ chunk_at m (suc k) (suc i) xs h =
 
 pub place_chunk : (a : List ℕ) (n i : ℕ) → i < n → get_or (places_in a n) i [] ≡ place_in a i
 place_chunk a n i h = chunk_at 976 n i (drop 80 a) h ∙ ap (take 976) (drop-drop (976 * i) 80 a)
+
+-- so what is read there is what stands at place i
+pub read_at : (a : List ℕ) (n i : ℕ) → i < n → get_or (read_places a header_bytes n) i None ≡ read_place (place_in a i)
+read_at a n i h =
+    ap (λ l. get_or l i None) (places_read a n)
+    ∙ get_or-map read_place (places_in a n) i [] None (omega (arith, h, length-chunks 976 n (drop 80 a)))
+    ∙ ap read_place (place_chunk a n i h)

@@ -1,9 +1,9 @@
--- The entries of a list as chunks of two bytes.
+-- The entries of a list as chunks of two bytes, and one by one.
 -- Assumes nothing.
 use Rattle.std.specs.Prelude.{◌≡◌, refl, ◌||◌, List, [], ◌∷◌, eqb, take, drop, length}
 use Rattle.std.proofs.Common.{ap, sym, ◌∙◌, take-take, drop-drop}
 use Rattle.std.proofs.lemmas.List.{drop-take}
-use Prim.Native.Nat.{ℕ, zero, suc, ◌+◌, ◌-◌, ◌*◌, ◌≤◌}
+use Prim.Native.Nat.{ℕ, zero, suc, ◌+◌, ◌-◌, ◌*◌, ◌≤◌, ◌<◌}
 use native.Mathlib.Omega.{arith}
 use Rattle.std.specs.List.{list_any, flat_map}
 use Rattle.std.specs.Simd.{first_chunks}
@@ -42,3 +42,18 @@ pub entries_lent : (s : List ℕ) (at n : ℕ) → entries (take (at + 2 * n - a
 entries_lent s at n =
     let many : at + 2 * n - at ≡ 2 * n = omega arith in
     rw many (sym (chunks_are n (take (2 * n) (drop at s)) 0) ∙ ap (λ l. numbers (first_chunks 2 n l)) (take-take (2 * n) (2 * n) (drop at s) (omega arith)) ∙ chunks_are n s at)
+
+-- entry i and what is behind it, and nothing behind the last
+module _ (s : List ℕ) (at n : ℕ) where
+  pub entries_turn : (i : ℕ) → i < n → entries s (at + 2 * i) (n - i) ≡ from_le (part s (at + 2 * i) 2) ∷ entries s (at + 2 * (i + 1)) (n - (i + 1))
+  unfolding entries
+  entries_turn i more =
+      let e : n - i ≡ suc (n - (i + 1)) = omega arith in
+      let behind : at + 2 * i + 2 ≡ at + 2 * (i + 1) = omega arith in
+      rw (e, behind)
+
+  pub entries_past : (i : ℕ) → n ≤ i → entries s (at + 2 * i) (n - i) ≡ []
+  unfolding entries
+  entries_past i past =
+      let e : n - i ≡ 0 = omega arith in
+      rw e
