@@ -52,7 +52,7 @@ module _ (a : Area) (i : ℕ) (ballot : Ballot) (ei : i ≡ place_of ballot (sta
   pub found_only : pending_at ballot (state a).places ≡ Some (pending a i)
   found_only = found.only ∙ ap Some (sym same_pending)
 
-  found_replaced : (q : Option Pending) → replace_at (pending a i).ballot q (state a).places ≡ set (state a).places i q
+  pub found_replaced : (q : Option Pending) → replace_at (pending a i).ballot q (state a).places ≡ set (state a).places i q
   found_replaced q = rw same_pending (found.replaced q)
 
 -- ---- a sender that may answer

@@ -37,14 +37,14 @@ module _ (b : List ℕ) (f : Front) (used : Used b) (ef : f ≡ front_of (read_p
       let e : 144 + f.key_len - 144 ≡ length (key_of p.req) = omega (arith, ap (λ (g : Front). g.key_len) ef) in
       ap (λ (k : ℕ). part b key_start k) e ∙ ap (λ (r : List ℕ). part r key_start (length (key_of p.req))) image ∙ key_part p lawful
 
-  values_are : take (208 + f.first_len + f.second_len - 208) (drop 208 b) ≡ values_of p.req
+  pub values_are : take (208 + f.first_len + f.second_len - 208) (drop 208 b) ≡ values_of p.req
   unfolding front_of
   values_are =
       let e : 208 + f.first_len + f.second_len - 208 ≡ length (values_of p.req) =
       omega (arith, ap (λ (g : Front). g.first_len) ef, ap (λ (g : Front). g.second_len) ef, length-append (bytes_of (first_value p.req)) (bytes_of (second_value p.req))) in
       ap (λ (k : ℕ). part b values_at k) e ∙ ap (λ (r : List ℕ). part r values_at (length (values_of p.req))) image ∙ values_part p lawful
 
-  promised_is : take (720 + f.value_len - 720) (drop 720 b) ≡ bytes_of p.value
+  pub promised_is : take (720 + f.value_len - 720) (drop 720 b) ≡ bytes_of p.value
   unfolding front_of
   promised_is =
       let e : 720 + f.value_len - 720 ≡ length (bytes_of p.value) = omega (arith, ap (λ (g : Front). g.value_len) ef) in
@@ -54,6 +54,10 @@ module _ (b : List ℕ) (f : Front) (used : Used b) (ef : f ≡ front_of (read_p
   pub applied_is : applied (request_in f.req (take (208 + f.first_len + f.second_len - 208) (drop 208 b)) f.first_len) (given f.mark (take (720 + f.value_len - 720) (drop 720 b))) ≡ applied p.req p.value
   unfolding front_of
   applied_is = rw (values_are, promised_is, ef) (applied_in p.req p.value)
+
+  pub applied_fits : length (bytes_of (applied (request_in f.req (take (208 + f.first_len + f.second_len - 208) (drop 208 b)) f.first_len) (given f.mark (take (720 + f.value_len - 720) (drop 720 b)))).value) ≤ value_most
+  applied_fits =
+      rw applied_is (applied_short p.req p.value lawful.first.short lawful.second.short lawful.promised.short)
 
 -- the lists of the place that the front has the lengths of
 module _ (b : List ℕ) (f : Front) (ef : f ≡ front_of (read_pending b)) where

@@ -4,7 +4,7 @@
 
 mod request;
 
-ghost use Rattle.std.specs.Prelude.{◌≡◌, not, [], ◌≤◌, leb, length};
+ghost use Rattle.std.specs.Prelude.{◌≡◌, not, [], ◌≤◌, max, leb, length};
 ghost use Rattle.std.specs.Prelude.{None, Some, MatchOption};
 ghost use Rattle.std.specs.List.{flat_map};
 ghost use Rattle.messages.specs.Message.{Reply, failure_of};
@@ -52,6 +52,13 @@ pub fn short_of(answers: usize, n: usize) -> bool
     answers < proposer_change::majority(n)
 }
 
+// The higher of two numbers: `max`, under the name that callers of this crate have for it.
+pub fn higher(x: u64, y: u64) -> u64
+    ensures { result ≡ max x y }
+{
+    x.max(y)
+}
+
 // What is done at place i takes the area and i, and requires what the place then holds. Of a type of both, with that as its ghost field,
 // the field is false once `drop_with` has dropped the place; and the type would hold the `&mut Area`, so that each work had to promise of
 // two lenders, the area's and the bytes', that they stay (`lent` of `WorkedOn` twice).
@@ -72,7 +79,7 @@ pub fn drop_with(area: &mut Area<'_>, i: usize, counter: u64, error: Error) -> A
 }
 
 // One more no at place i, and another counter.
-fn raise_with(area: &mut Area<'_>, i: usize, counter: u64, from: Address)
+pub fn raise_with(area: &mut Area<'_>, i: usize, counter: u64, from: Address)
     requires { MayAsk area.old i }
     ensures { Becomes area.old area.new (placed (state area.old) counter i (Some (with_no (pending area.old i) from))) }
 {
@@ -88,7 +95,7 @@ pub fn noted(area: &mut Area<'_>, i: usize, from: Address, last: Ballot) -> Opti
 {
     let h = area.header();
     let f = proposer_area::take_place(area, i);
-    let counter = h.counter.max(last.0);
+    let counter = higher(h.counter, last.0);
     if short_of(f.nacks_from + 1, f.waiting_for) {
         raise_with(area, i, counter, from);
         return None;

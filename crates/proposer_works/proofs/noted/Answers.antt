@@ -21,7 +21,7 @@ returns-then-short_of c =
       short = noes_reached _ _ c.args.from c.take_place-f.ensures.0 ∙ not-true _ (sym c.short_of.ensures ∙ c.if-short_of.true);
       becomes =
           subst (λ (k : ℕ). Becomes a c.raise_with.new.area (placed (state a) k c.args.i (Some (with_no (pending a c.args.i) c.args.from))))
-          (counter_raised a.bytes.now a.places _ c.args.last _ c.header-h.ensures.0 c.max-counter.ensures) c.raise_with.ensures;
+          (counter_raised a.bytes.now a.places _ c.args.last _ c.header-h.ensures.0 c.higher-counter.ensures) c.raise_with.ensures;
     }
 
 pub returns : goal.returns
@@ -29,6 +29,6 @@ returns c =
     let a = c.args.area.now in
     record {
       enough = noes_reached _ _ c.args.from c.take_place-f.ensures.0 ∙ not-false _ (sym c.short_of.ensures ∙ c.if-short_of.false);
-      counter = counter_raised a.bytes.now a.places _ c.args.last _ c.header-h.ensures.0 c.max-counter.ensures;
+      counter = counter_raised a.bytes.now a.places _ c.args.last _ c.header-h.ensures.0 c.higher-counter.ensures;
       same = refl;
     }
