@@ -14,6 +14,8 @@ use Rattle.leaf_fields.specs.Stores.{sets_join}
 use Rattle.leaf_fields.specs.Fields.{to_le}
 use Rattle.leaf_fields.specs.Laws.{length-to_le}
 use Rattle.messages.specs.declared.answer.Answer.{Answer}
+use Rattle.messages.specs.declared.answer.Refusal.{Refusal}
+use Rattle.messages.specs.Refusals.{test, first_due}
 use Rattle.messages.specs.Answers.{Row, rows_at, row_bytes, rows_bytes, answer_of, written_in}
 use Rattle.proposer_rules.specs.State.{Pending, Proposer}
 use Rattle.proposer_rules.specs.Rules.{moved, all_timeouts, clock_back, late, in_time, late_ones, rows_of, tick}
@@ -31,7 +33,8 @@ use Rattle.proposer_area.specs.Held.{Held}
 use Rattle.proposer_area.specs.HeldLaws.{state_held, place_image_lem, lawful_at, with_place}
 use Rattle.proposer_area.specs.declared.area.Area.{Area}
 use Rattle.proposer_area.specs.State.{state, Becomes}
-use Rattle.proposer_works.specs.Works.{WorkedOn, answer_bytes}
+use Rattle.proposer_works.specs.Works.{answer_bytes, Worked, WorkedOn}
+use Rattle.proposer_works.specs.WorksLaws.{refused_work}
 
 -- ---- being late hangs on the timeout alone
 
@@ -179,6 +182,10 @@ module _ (a w : List ℕ) (n t k : ℕ) (a' w' : List ℕ) (here : Expiring a w 
 
 -- ---- the tick
 
+pub tick_back : (a w : List ℕ) (n t : ℕ) (back : Bool) → Held a n → back ≡ clock_back t (read_places a header_bytes n) → back ≡ true → Worked w (tick (read_area a n) t) (Answer.Refused Refusal.ClockBack) a w
+unfolding tick read_area
+tick_back a w n t back held e behind = refused_work a w (read_area a n) (first_due (test (clock_back t (read_area a n).places) Refusal.ClockBack ∷ [])) _ Refusal.ClockBack held.image (rw (sym e ∙ behind))
+
 -- the answer by the number of rows
 told_rows : (l : List Pending) → cond (eqb (length l) 0) Answer.Nothing (Answer.Timeouts (length l)) ≡ answer_of (all_timeouts (rows_of l))
 unfolding rows_of
@@ -190,24 +197,35 @@ unfolding rows_of rows_bytes
 written_rows w [] = refl
 written_rows w (p ∷ l) = refl
 
-module _ (a b : Area) (w w' : List ℕ) (t k : ℕ) (ahead : clock_back t (state a).places ≡ false) (told : k ≡ length (late_ones (state a) t (state a).places)) (dropped : Becomes a b (moved (state a) (state a).counter (in_time (state a) t (state a).places))) (rows : w' ≡ sets w rows_at (rows_bytes (rows_of (late_ones (state a) t (state a).places)))) where
-  ticked : WorkedOn a w (tick (state a) t) (cond (eqb k 0) Answer.Nothing (Answer.Timeouts k)) b w'
-  unfolding tick
+module _ (a w : List ℕ) (n t k : ℕ) (back : Bool) (a' w' : List ℕ) (e : back ≡ clock_back t (read_places a header_bytes n)) (ahead : back ≡ false) (done : Expired a w n t k a' w') where
+  ticked : Worked w (tick (read_area a n) t) (cond (eqb k 0) Answer.Nothing (Answer.Timeouts k)) a' w'
+  unfolding tick read_area
   ticked =
+      rw (sym e ∙ ahead)
       record {
-        worked =
-            rw ahead
-            record {
-              answer = ap (λ (j : ℕ). cond (eqb j 0) Answer.Nothing (Answer.Timeouts j)) told ∙ told_rows (late_ones (state a) t (state a).places);
-              area = dropped.image;
-              written = rows ∙ written_rows w (late_ones (state a) t (state a).places);
-            };
-        lent = dropped.lent;
-        places = dropped.places;
+        answer = ap (λ (j : ℕ). cond (eqb j 0) Answer.Nothing (Answer.Timeouts j)) done.told ∙ told_rows (late_ones (read_area a n) t (read_area a n).places);
+        area = done.area;
+        written = done.rows ∙ written_rows w (late_ones (read_area a n) t (read_area a n).places);
       }
 
-  pub tick_nothing : k ≡ 0 → WorkedOn a w (tick (state a) t) Answer.Nothing b w'
-  tick_nothing z = rw z at ticked
+  pub tick_nothing : k ≡ 0 → Worked w (tick (read_area a n) t) Answer.Nothing a' w'
+  tick_nothing z = subst (λ (r : Answer). Worked w (tick (read_area a n) t) r a' w') (rw z) ticked
 
-  pub tick_told : (k ≡ 0 → ⊥) → WorkedOn a w (tick (state a) t) (Answer.Timeouts k) b w'
-  tick_told late = rw (ne_eqb k 0 late) at ticked
+  pub tick_told : (k ≡ 0 → ⊥) → Worked w (tick (read_area a n) t) (Answer.Timeouts k) a' w'
+  tick_told some-late = subst (λ (r : Answer). Worked w (tick (read_area a n) t) r a' w') (rw (ne_eqb k 0 some-late)) ticked
+
+-- the same of an area, which stays the one that was lent
+module _ (a b : Area) (w w' : List ℕ) (t k : ℕ) (ahead : clock_back t (state a).places ≡ false) (told : k ≡ length (late_ones (state a) t (state a).places)) (dropped : Becomes a b (moved (state a) (state a).counter (in_time (state a) t (state a).places))) (rows : w' ≡ sets w rows_at (rows_bytes (rows_of (late_ones (state a) t (state a).places)))) where
+  expired : Expired a.bytes.now w a.places t k b.bytes.now w'
+  expired = record { told = told; area = dropped.image; rows = rows }
+
+  on_area : (r : Answer) → Worked w (tick (state a) t) r b.bytes.now w' → WorkedOn a w (tick (state a) t) r b w'
+  on_area r worked = record { worked = worked; lent = dropped.lent; places = dropped.places }
+
+  pub tick_nothing_on : k ≡ 0 → WorkedOn a w (tick (state a) t) Answer.Nothing b w'
+  unfolding read_area
+  tick_nothing_on z = on_area Answer.Nothing (tick_nothing a.bytes.now w a.places t k false b.bytes.now w' (sym ahead) refl expired z)
+
+  pub tick_told_on : (k ≡ 0 → ⊥) → WorkedOn a w (tick (state a) t) (Answer.Timeouts k) b w'
+  unfolding read_area
+  tick_told_on some-late = on_area (Answer.Timeouts k) (tick_told a.bytes.now w a.places t k false b.bytes.now w' (sym ahead) refl expired some-late)
