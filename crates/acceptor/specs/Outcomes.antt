@@ -119,7 +119,7 @@ module _ (t : List ℕ) (n : ℕ) (a : List ℕ) (from : Address) (m : Message) 
     block_received i w r t' a' (inr e) ew back p ea =
         placed_by t n a from m w i r t' a' (new_outcome t n a from m j jm lent la i w e (ap j.work (sym (register_new t n j.key i lent e)) ∙ sym ew) lim) back p ea
 
-    pub full_received : (w : Work) (r : Answer) → where_is j.key (slots t n) ≡ Found.Full → j.work (fresh j.key) ≡ w → said (answer_of (one from w.answer)) a ≡ one from w.answer → a ≡ written_in a (one from w.answer) → r ≡ full_answer w from → Received t n a from m r t a
+    pub full_received : (w : Work) (r : Answer) → where_is j.key (slots t n) ≡ Found.Full → j.work (fresh j.key) ≡ w → said (answer_of (one from w.answer)) a ≡ one from w.answer → a ≡ written_in a (one from w.answer) → r ≡ full_answer w true from → Received t n a from m r t a
     full_received w r e ew back ea er = go w.stores refl er (full_outcome t n a from m j jm lent la w e ew lim)
       where
         go : (s : Bool) → w.stores ≡ s → r ≡ cond w.stores (Answer.Refused Refusal.NoRoom) (answer_of (one from w.answer)) → outcome_on t n a from m ≡ cond w.stores (outcome keep (refused Refusal.NoRoom)) (outcome keep (one from w.answer)) → Received t n a from m r t a
@@ -157,7 +157,7 @@ module _ (t : List ℕ) (n : ℕ) (a key : List ℕ) (from : Address) (lent : Le
         let fits = value_fits_lem b (length_block t i (room_in t n key i lent more)) (readable_in t n key i lent more) in
         block_received t n a from (Message.ProposeReq ballot key) (proposal ballot key) refl lent la lim i (proposed ballot (register_with key b)) r t' a' at_i refl (propose_back ballot (register_with key b) from a (omega arith)) p ea
 
-    pub propose_full : (r : Answer) → where_is key (slots t n) ≡ Found.Full → r ≡ full_answer (proposed ballot (fresh [])) from → Received t n a from (Message.ProposeReq ballot key) r t a
+    pub propose_full : (r : Answer) → where_is key (slots t n) ≡ Found.Full → r ≡ full_answer (proposed ballot (fresh [])) true from → Received t n a from (Message.ProposeReq ballot key) r t a
     propose_full r e er =
         full_received t n a from (Message.ProposeReq ballot key) (proposal ballot key) refl lent la lim (proposed ballot (fresh key)) r e refl (propose_back ballot (fresh key) from a (omega arith)) refl er
 

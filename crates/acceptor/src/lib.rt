@@ -99,7 +99,8 @@ pub fn receive(
     }
     match (job, block) {
         (Job::Proposal(ballot), Some(i)) => propose_at(table, i, from, ballot, message.key, area),
-        (Job::Proposal(ballot), None) => acceptor_work::propose_full(from, ballot),
+        // over the limits is refused above, so here the message fits
+        (Job::Proposal(ballot), None) => acceptor_work::propose_full(from, ballot, true),
         (Job::Acceptance(ballot, o), Some(i)) => accept_at(
             table,
             i,

@@ -1,6 +1,6 @@
 -- What the acceptor's work is on one block, and its answer where there is no block: the rules' work, as an answer and as every byte of the block.
 -- Assumes nothing.
-use Rattle.std.specs.Prelude.{◌≡◌, cond, List, ℕ}
+use Rattle.std.specs.Prelude.{◌≡◌, Bool, cond, List, ℕ}
 use Rattle.messages.specs.declared.Address.{Address}
 use Rattle.messages.specs.declared.answer.Answer.{Answer}
 use Rattle.messages.specs.declared.answer.Refusal.{Refusal}
@@ -19,5 +19,6 @@ pub record Worked (w : Work) (from : Address) (b : List ℕ) (r : Answer) (b' : 
   pub block : b' ≡ cond w.stores (image w.next) b
 
 -- the answer where no block holds the key and none is free
-abbrev pub full_answer : Work → Address → Answer
-full_answer w from = cond w.stores (Answer.Refused Refusal.NoRoom) (answer_of (one from w.answer))
+abbrev pub full_answer : Work → Bool → Address → Answer
+full_answer w fits from =
+    cond fits (cond w.stores (Answer.Refused Refusal.NoRoom) (answer_of (one from w.answer))) (Answer.Refused Refusal.OverLimit)

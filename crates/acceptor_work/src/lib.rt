@@ -88,10 +88,13 @@ pub fn accept_in(
     }
 }
 
-// A proposal for an unknown key on a full table: above ballot 0 it needs a block.
-pub fn propose_full(from: Address, ballot: Ballot) -> Answer
-    ensures { result ≡ full_answer (proposed ballot (fresh [])) from }
+// A proposal for an unknown key on a full table: above ballot 0 it needs a block. `fits`: whether the message is within the limits.
+pub fn propose_full(from: Address, ballot: Ballot, fits: bool) -> Answer
+    ensures { result ≡ full_answer (proposed ballot (fresh [])) fits from }
 {
+    if !fits {
+        return Answer::Refused(Refusal::OverLimit);
+    }
     if ballot.above(Ballot(0)) {
         return Answer::Refused(Refusal::NoRoom);
     }

@@ -123,12 +123,15 @@ pub fn write<T: Number>(d: &mut [u8], at: usize, x: T)
     put(d, at, T::WIDTH, x.wide())
 }
 
-// All of s, stored at `at`.
+// All of s, stored at `at`. By the bytes' numbers, and no `copy_from_slice`: that is a call of the C library's `memmove`, which the archive
+// for C would then need from outside.
 pub fn copy(d: &mut [u8], at: usize, s: &[u8])
     requires { at + length s.now ≤ length d.old }
     ensures { d.new ≡ sets d.old at s.now }
 {
-    d[at..at + s.len()].copy_from_slice(s);
+    for i in 0..s.len() {
+        d[at + i] = s[i];
+    }
 }
 
 // Zeros throughout.

@@ -3,7 +3,7 @@
 
 ghost use Rattle.std.specs.Prelude.{◌≡◌, true, length, option_map};
 ghost use Rattle.std.proofs.lemmas.List.Edits.{sets};
-ghost use Rattle.messages.specs.Answers.{bytes_of};
+ghost use Rattle.messages.specs.Answers.{marked, bytes_of};
 ghost use Rattle.storage_block.specs.Block.{
   head_good,
   rest_zero,
@@ -13,7 +13,7 @@ ghost use Rattle.storage_block.specs.Block.{
   register_of,
 };
 
-use messages::{Ballot, KEY_MOST, VALUE_MOST};
+use messages::{Ballot, KEY_MOST, Lent, VALUE_MOST};
 
 pub const BLOCK: usize = 512;
 
@@ -84,6 +84,14 @@ pub fn accepted_ballot(b: &[u8; BLOCK]) -> Ballot
     ensures { result ≡ (register_of b.now).accepted }
 {
     Ballot(leaf_fields::read(b, 16))
+}
+
+// Whether a value is present, of any 512 bytes: `value` below reads only a block that may be read.
+#[tactic(auto, unfolding(crate::specs::Block::register_of))]
+pub fn value_mark(b: &[u8; BLOCK]) -> Option<Lent>
+    ensures { result ≡ marked (register_of b.now).value }
+{
+    Lent::of_mark(b[2].into())
 }
 
 // The value's bytes, as a part of the block, if there is a value.

@@ -1,14 +1,16 @@
 -- The laws of a table's bytes: its size, its blocks as they are lent, and a table with one block replaced. And the laws of equal bytes.
 -- Assumes nothing.
 use Rattle.std.specs.Prelude.{◌≡◌, true, ◌&&◌, List, [], ◌∷◌, ◌++◌, ℕ, zero, suc, ◌+◌, ◌-◌, ◌*◌, ◌≤◌, ◌<◌, eqb, leb, ltb}
-use Rattle.std.proofs.Common.{◌∙◌, zero-add, suc-add, eqb-true, leb-true, ltb-true, length-drop, length-append, take-append-drop, drop_at}
+use Rattle.std.proofs.Common.{sym, ◌∙◌, zero-add, suc-add, eqb-true, leb-true, ltb-true, length-drop, length-append, take-append-drop, drop_at, get_or-take, get_or-drop}
 use Rattle.std.proofs.Math.Path.{ap}
 use native.Mathlib.Omega.{arith}
 use Rattle.std.proofs.Math.Decide.{dec_lt}
+use borrow.Rule.Slice.PartMut as part
 use Rattle.std.specs.Array.{IsFirstChunk}
 use Rattle.std.proofs.Math.ListN.{length, take, drop, length-take}
 use Rattle.std.proofs.Math.Seq.{take-nil, drop-nil, take_at, take-take, drop-drop, drop-append-add}
 use Rattle.std.proofs.lemmas.List.{take-append-le, drop-append-le}
+use Rattle.leaf_fields.specs.Fields.{byte}
 use Rattle.leaf_fields.specs.Laws.{and_true}
 use Rattle.messages.specs.Limits.{registers_most}
 use Rattle.storage_block.specs.Block.{block_bytes}
@@ -45,14 +47,37 @@ module _ (t f r b : List ℕ) (i : ℕ) (before : f ≡ take (i * 512) t) (behin
   unfolding with_block
   back_block n = rw (before, behind)
 
+-- the same where it is lent as a part of the table
+pub put_mid : (t : List ℕ) (i : ℕ) (ys : List ℕ) → part.put_mid (i * 512) (i * 512 + 512 - i * 512) t ys ≡ with_block t i ys
+unfolding with_block
+put_mid t i ys =
+    let e : i * 512 + 512 - i * 512 ≡ 512 = omega arith in
+    rw e
+
 pub length_block : (t : List ℕ) (i : ℕ) → i * block_bytes + block_bytes ≤ length t → length (block_at t i) ≡ block_bytes
 unfolding block_at
 length_block t i room = simp (length-take, length-drop) (omega arith)
+
+pub lent_length : (t : List ℕ) (i : ℕ) → i * 512 + 512 ≤ length t → length (take (i * 512 + 512 - i * 512) (drop (i * 512) t)) ≡ 512
+lent_length t i room = simp (length-take, length-drop) (omega arith)
+
+-- a block's bytes are the table's
+pub byte_block : (t : List ℕ) (i a : ℕ) → a < block_bytes → byte (block_at t i) a ≡ byte t (i * block_bytes + a)
+unfolding block_at
+byte_block t i a h = get_or-take block_bytes (drop (i * block_bytes) t) a 0 h ∙ get_or-drop (i * block_bytes) t a 0
 
 drop-take : (a m : ℕ) (t : List ℕ) → drop a (take (a + m) t) ≡ take m (drop a t)
 drop-take zero m t = rw zero-add
 drop-take (suc a) m [] = simp (take-nil, drop-nil)
 drop-take (suc a) m (x ∷ t) = rw suc-add (drop-take a m t)
+
+-- what a block has from a on
+pub drop_block : (t : List ℕ) (i a m : ℕ) → a + m ≡ block_bytes → drop a (block_at t i) ≡ take m (drop (i * block_bytes + a) t)
+unfolding block_at
+drop_block t i a m e =
+    ap (λ (k : ℕ). drop a (take k (drop (i * block_bytes) t))) (sym e)
+    ∙ drop-take a m (drop (i * block_bytes) t)
+    ∙ ap (take m) (drop-drop a (i * block_bytes) t)
 
 -- ---- a table with one block replaced
 

@@ -16,11 +16,12 @@ use Rattle.std.proofs.lemmas.List.{length-map, get_or-map}
 use Rattle.leaf_fields.specs.Fields.{byte, all_zero, same}
 use Rattle.leaf_fields.specs.Laws.{and_true, same-true}
 use Rattle.messages.specs.Message.{Key}
+use Rattle.messages.specs.Limits.{key_most}
 use Rattle.storage_block.specs.Block.{Slot, free, used, bad, Register, block_bytes, key_length, register_of, good, state_of, slot_of}
 use Rattle.storage_block.specs.Read.{Good, good_of}
 use Rattle.storage_search.specs.declared.Found.{Found}
-use Rattle.storage_search.specs.Table.{block_at, with_block, blocks_from, blocks_of, slots_from, slots, is_bad, none_bad, holds, is_free, count, first_from, found_by, where_is, LentAs}
-use Rattle.storage_search.specs.Blocks.{room_for, block_same, block_other}
+use Rattle.storage_search.specs.Table.{block_at, with_block, blocks_from, blocks_of, slots_from, slots, is_bad, none_bad, holds, is_free, count, first_from, found_by, where_is, Lent, LentAs}
+use Rattle.storage_search.specs.Blocks.{sized_of, room_for, length_block, byte_block, drop_block, block_same, block_other}
 
 -- ---- each slot is its block's
 
@@ -54,6 +55,14 @@ slots_of_from t i (suc m) = ap (λ l. slot_of (block_at t i) ∷ l) (slots_of_fr
 pub slots_of_blocks : (t : List ℕ) (n : ℕ) (l : List (List ℕ)) → l ≡ blocks_of t n → map slot_of l ≡ slots t n
 unfolding blocks_of slots
 slots_of_blocks t n l e = rw e (slots_of_from t 0 n)
+
+from_at : (t : List ℕ) (i m j : ℕ) → j < m → get_or (slots_from t i m) j free ≡ slot_of (block_at t (i + j))
+unfolding slots_from
+from_at t i zero j h = absurd (omega arith)
+from_at t i (suc m) zero h = rw add-zero
+from_at t i (suc m) (suc j) h =
+    let e : suc i + j ≡ i + suc j = omega arith in
+    from_at t (suc i) m j (omega arith) ∙ ap (λ (k : ℕ). slot_of (block_at t k)) e
 
 pub slot_at : (t : List ℕ) (n i : ℕ) → i < n → get_or (slots t n) i free ≡ slot_of (block_at t i)
 slot_at t n i h =
@@ -263,6 +272,50 @@ holds_by_bytes k b len h =
       | unused e z ↦ rw (e, z)
       | held e g ↦ rw (e, g.head.version) (same-take (key_length b) (drop 24 b) k (omega (arith, length-drop 24 b, g.head.key_short)))
     ]
+
+-- ---- and what a table's bytes say of its slots
+
+starts-take : (n : ℕ) (l k : List ℕ) → length k ≤ n → starts (take n l) k ≡ starts l k
+unfolding starts
+starts-take n l [] h = refl
+starts-take zero l (y ∷ k) h = absurd (omega arith)
+starts-take (suc n) [] (y ∷ k) h = refl
+starts-take (suc n) (x ∷ l) (y ∷ k) h = ap (λ (r : Bool). eqb x y && r) (starts-take n l k (omega arith))
+
+module _ (t : List ℕ) (n i : ℕ) (lent : Lent t n) (lt : i < n) where
+  fine_at : Fine (block_at t i)
+  fine_at = fine_of (block_at t i) (sound_at t n i lent.sound lt)
+
+  first_byte : byte (block_at t i) 0 ≡ byte t (i * block_bytes)
+  first_byte = rw add-zero at (byte_block t i 0 (omega arith))
+
+  -- a block that is in use has a key within the limits
+  pub key_short_at : byte t (i * block_bytes) ≡ 1 → byte t (i * block_bytes + 1) ≤ key_most
+  key_short_at one =
+      let first = first_byte in
+      let second = byte_block t i 1 (omega arith) in
+      elim fine_at [ unused e z ↦ absurd (omega arith) | held e g ↦ omega (arith, g.head.key_short) ]
+
+  pub free_by_table : is_free (slot_of (block_at t i)) ≡ eqb (byte t (i * block_bytes)) 0
+  free_by_table = rw first_byte at (free_by_bytes (block_at t i) (sound_at t n i lent.sound lt))
+
+  pub holds_by_table : (k : Key) → holds k (slot_of (block_at t i)) ≡ (eqb (byte t (i * block_bytes)) 1 && eqb (byte t (i * block_bytes + 1)) (length k) && starts (drop (i * block_bytes + 24) t) k)
+  holds_by_table k =
+      rw (first_byte, byte_block t i 1 (omega arith), drop_block t i 24 488 refl) at
+      (holds_by_bytes k (block_at t i) (length_block t i (room_for t n i (sized_of t n lent.sized).bytes lt)) (sound_at t n i lent.sound lt))
+      ∙ go (eqb (byte t (i * block_bytes)) 1) (eqb (byte t (i * block_bytes + 1)) (length k)) refl refl
+    where
+      behind : List ℕ
+      behind = drop (i * block_bytes + 24) t
+
+      -- where the lengths are equal the key is within the block
+      go : (x y : Bool) → eqb (byte t (i * block_bytes)) 1 ≡ x → eqb (byte t (i * block_bytes + 1)) (length k) ≡ y → (x && y && starts (take 488 behind) k) ≡ (x && y && starts behind k)
+      go true true ex ey =
+          let short = key_short_at (eqb-true (byte t (i * block_bytes)) 1 ex) in
+          let long = eqb-true (byte t (i * block_bytes + 1)) (length k) ey in
+          starts-take 488 behind k (omega arith)
+      go true false ex ey = refl
+      go false y ex ey = refl
 
 -- ---- one turn of a search of the blocks from i on
 

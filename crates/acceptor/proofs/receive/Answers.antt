@@ -136,7 +136,7 @@ module _ {t : List ℕ} {n : ℕ} {a₀ a : List ℕ} {from : Address} {rpc : Rp
     proposal_placed i r t' a' ei p ea =
         rw e (propose_block t n a₀ k from h.lent h.area.long b (rw e at (sym h.limits)) i r t' a' (taken t n k o i h.place ei) p (rw h.area.same at ea))
 
-    proposal_full : (r : Answer) → o ≡ None → r ≡ full_answer (proposed b (fresh [])) from → Received t n a₀ from (message_of rpc k v w l) r t a
+    proposal_full : (r : Answer) → o ≡ None → r ≡ full_answer (proposed b (fresh [])) true from → Received t n a₀ from (message_of rpc k v w l) r t a
     proposal_full r eo er = rw (h.area.same, e) (propose_full t n a₀ k from h.lent h.area.long b (rw e at (sym h.limits)) r (none_free t n k o h.place eo) er)
 
   module _ (b : Ballot) (x : Option Marks.Lent) (e : rpc ≡ Rpc.AcceptReq b x) where
