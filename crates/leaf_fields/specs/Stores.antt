@@ -69,6 +69,12 @@ sets_zeros n vs h =
 
 -- ---- padded rows
 
+pub padded_nothing : (n : ℕ) → padded n [] ≡ replicate n 0
+unfolding padded
+padded_nothing n =
+    let e : n - 0 ≡ n = omega arith in
+    rw e
+
 -- more behind what a padded row holds
 pub padded_more : (n : ℕ) (l vs : List ℕ) (i : ℕ) → i ≡ length l → length l + length vs ≤ n → sets (padded n l) i vs ≡ padded n (l ++ vs)
 unfolding padded
