@@ -384,10 +384,15 @@ short_value (Some mark) v h = leb-true (length v) 256 h
 
 -- ---- what is made of a place is as long as it
 
+length-full : (f w y n k v p : List ℕ) → Sized f w y n k v p → length (full_rows f w y n k v p) ≡ place_bytes
+unfolding full_rows
+length-full f w y n k v p s = simp length-append (omega (arith, s.front, s.waited, s.yeses, s.noes, s.key, s.values, s.promised))
+
 pub length-rows : (f : Front) (r : Rows) → Fit r → length (rows_image f r) ≡ place_bytes
 length-rows f r fit =
     let values : length (r.first.now ++ r.second.now) ≤ values_bytes = simp length-append fit.values in
-    length-place_rows _ _ _ _ _ _ _ (length-front_bytes f) fit.waited fit.yes fit.no fit.key values fit.promised
+    ap length (rows_padded (front_bytes f) r.waited.now r.yes.now r.no.now r.key.now (r.first.now ++ r.second.now) r.promised.now)
+    ∙ length-full _ _ _ _ _ _ _ (sized_padded _ _ _ _ _ _ _ (length-front_bytes f) fit.waited fit.yes fit.no fit.key values fit.promised)
 
 -- by its rows, of which the request's own are those of a place that is used
 length-used : (b : List ℕ) → Used b → (q : Pending) → q.req ≡ (read_pending b).req → length q.waiting_for ≤ list_most → length q.acks_from ≤ list_most → length q.nacks_from ≤ list_most → length (bytes_of q.value) ≤ value_most → length (place_image (Some q)) ≡ place_bytes
@@ -395,8 +400,8 @@ length-used b u q same lw ly ln lp =
     let ok = u.lawful in
     let key : length (key_of q.req) ≤ key_most = rw same ok.key.short in
     let values : length (values_of q.req) ≤ values_bytes = rw same (simp length-append (omega (arith, ok.first.short, ok.second.short))) in
-    ap length (image_place_rows q)
-    ∙ length-place_rows _ _ _ _ _ _ _ (length-place_front q) (omega (arith, length_entries q.waiting_for)) (omega (arith, length_entries q.acks_from)) (omega (arith, length_entries q.nacks_from)) key values lp
+    ap length (image_place_rows q ∙ rows_padded _ _ _ _ _ _ _)
+    ∙ length-full _ _ _ _ _ _ _ (sized_padded _ _ _ _ _ _ _ (length-place_front q) (omega (arith, length_entries q.waiting_for)) (omega (arith, length_entries q.acks_from)) (omega (arith, length_entries q.nacks_from)) key values lp)
 
 module _ (b : List ℕ) (u : Used b) where
   abbrev was : Pending
