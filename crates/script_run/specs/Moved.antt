@@ -1,6 +1,6 @@
 -- Where the output is written up to changes nothing else of a line: what it does, every byte and its text are the same at any place.
 -- Assumes nothing.
-use Rattle.std.specs.Prelude.{◌≡◌, refl, Bool, true, false, cond, List, ℕ, ◌-◌, ◌+◌, ◌*◌, ltb, length, take}
+use Rattle.std.specs.Prelude.{◌≡◌, refl, Bool, true, false, cond, List, ℕ, ◌-◌, ◌*◌, ltb, length}
 use Rattle.std.proofs.Common.{ap, ◌∙◌}
 use Rattle.messages.specs.declared.Address.{Address}
 use Rattle.messages.specs.Message.{Message}

@@ -1,9 +1,8 @@
 -- `script_run::lacks_party` meets its contract: where there is a party, no step lacks one.
 -- Assumes nothing.
-use Rattle.std.proofs.Common.{◌≡◌, refl, ap, ◌∙◌, sym, Bool, true, false, Option, Some}
+use Rattle.std.proofs.Common.{◌≡◌, refl, true, false}
 use Rattle.script.specs.declared.step.Step.{Step}
-use Rattle.script_run.specs.declared.run.Party.{Party}
-use Rattle.script_run.specs.Obeyed.{is_started, lacks_party}
+use Rattle.script_run.specs.Obeyed.{lacks_party}
 use Rattle.script_run.proofs.lacks_party.Goals as goal
 
 none_lacks : (step : Step) → false ≡ lacks_party step true

@@ -1,6 +1,6 @@
 -- `script_answer::show::put_block_at` meets its contract: nothing for zeros; else the word, the number, the digits and the line end.
 -- Assumes nothing.
-use Rattle.std.proofs.Common.{◌≡◌, refl, List, [], ◌++◌, ℕ, length, take, rules}
+use Rattle.std.proofs.Common.{◌≡◌, List, [], ◌++◌, ℕ, length, take, rules}
 use borrow.Author.Tests.{tests}
 use Rattle.script_words.specs.Letters.{letters}
 use Rattle.script_words.specs.Written.{hex_of}

@@ -1,10 +1,10 @@
 -- `script_run::bench::obey_behind` meets its contract: the line is obeyed at the place where the output ends, and that place changes nothing else.
 -- Assumes nothing.
-use Rattle.std.proofs.Common.{◌≡◌, refl, sym, ap, ◌∙◌, List, ℕ, ◌≤◌, length, take, rules, arith}
-use Rattle.script_words.specs.LentLaws.{Put, put_in}
+use Rattle.std.proofs.Common.{◌≡◌, refl, sym, ap, ◌∙◌, List, ℕ, ◌≤◌, length, take}
+use Rattle.script_words.specs.LentLaws.{put_in}
 use Rattle.script_run.specs.declared.run.Run.{Run}
 use Rattle.script_run.specs.Run.{put_up_to}
-use Rattle.script_run.specs.Obeyed.{Ran, obeyed, Held, Stepped, Follows}
+use Rattle.script_run.specs.Obeyed.{Ran, obeyed, Stepped, Follows}
 use Rattle.script_run.specs.Moved.{moved, line_moved}
 use Rattle.script_run.proofs.bench.obey_behind.Goals as goal
 

@@ -1,6 +1,6 @@
 -- `script_run::start::fresh` meets its contract: what is lent is zeros as far as it was used, and the answer area throughout.
 -- Assumes nothing.
-use Rattle.std.proofs.Common.{◌≡◌, refl, ap, ◌∙◌, Bool, List, ℕ, ◌-◌, ◌≤◌, ◌<◌, arith, true, false, leb, leb-true, Some, sym, length, take, drop, length-append, length-drop}
+use Rattle.std.proofs.Common.{◌≡◌, refl, ap, ◌∙◌, Bool, List, ℕ, ◌-◌, ◌≤◌, arith, true, false, leb, leb-true, Some, sym, length, take, drop, length-append, length-drop}
 use Rattle.std.specs.Prelude.{replicate}
 use Rattle.std.proofs.lemmas.List.{length-replicate, length-take}
 use borrow.Rule.Slice.PartMut.{put_mid}

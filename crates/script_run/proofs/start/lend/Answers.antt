@@ -1,6 +1,6 @@
 -- `script_run::start::lend` meets its contract: nothing is put out where there are so many bytes.
 -- Assumes nothing.
-use Rattle.std.proofs.Common.{◌≡◌, refl, List, ℕ, ◌≤◌, ◌<◌, arith, Bool, true, false, leb, leb-true, sym, ◌∙◌, length}
+use Rattle.std.proofs.Common.{◌≡◌, refl, List, ℕ, ◌≤◌, arith, Bool, true, false, leb, leb-true, sym, ◌∙◌, length}
 use Rattle.leaf_fields.specs.Laws.{and_true}
 use Rattle.script_run.specs.declared.run.Run.{Run}
 use Rattle.script_run.specs.Run.{lending, lending_to}

@@ -1,6 +1,6 @@
 -- `script_run::start::poke` meets its contract: the bytes are stored where all of them are within the table.
 -- Assumes nothing.
-use Rattle.std.proofs.Common.{◌≡◌, refl, List, ℕ, ◌+◌, ◌-◌, ◌≤◌, ◌<◌, arith, lt-ltb, le-ltb, inl, inr, sym, take, drop, append_assoc, rules, length}
+use Rattle.std.proofs.Common.{◌≡◌, refl, List, ℕ, ◌+◌, ◌-◌, ◌≤◌, ◌<◌, arith, lt-ltb, le-ltb, sym, take, drop, append_assoc, length}
 use Rattle.std.proofs.Math.Seq.{sets, length-sets}
 use borrow.Rule.Slice.PartMut.{put_mid}
 use Rattle.std.proofs.lemmas.List.Edits.{sets-eq}

@@ -1,6 +1,6 @@
 -- `script_run::start::start_acceptor` meets its contract: a table of so many registers.
 -- Assumes nothing.
-use Rattle.std.proofs.Common.{false, List, ℕ, ◌*◌, ◌≤◌, ◌<◌, lt-ltb, le-ltb}
+use Rattle.std.proofs.Common.{List, ℕ, ◌*◌, ◌≤◌, ◌<◌, lt-ltb, le-ltb}
 use Rattle.script_run.specs.declared.run.Party.{Party}
 use Rattle.script_run.specs.declared.run.Run.{Run}
 use Rattle.script_run.specs.Obeyed.{unreadable, fresh_in, acceptor_in, Stepped}

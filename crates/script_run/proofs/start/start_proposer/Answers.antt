@@ -2,8 +2,7 @@
 -- Assumes nothing.
 use Rattle.std.proofs.Common.{◌≡◌, sym, ap, ◌∙◌, true, false, List, [], ℕ, ◌+◌, ◌*◌, ◌≤◌, ◌<◌, lt-ltb, le-ltb, take}
 use Rattle.proposer.specs.Contract.{start_on}
-use Rattle.script_words.specs.LentLaws.{Put}
-use Rattle.script_words.specs.LentLaws.{joined}
+use Rattle.script_words.specs.LentLaws.{Put, joined}
 use Rattle.script_run.specs.declared.run.Party.{Party}
 use Rattle.script_run.specs.declared.run.Run.{Run}
 use Rattle.script_run.specs.Run.{put_up_to}
