@@ -2,9 +2,8 @@
 -- Assumes nothing.
 use Rattle.std.proofs.Common.{◌≡◌, refl, ap, ◌∙◌, List, ◌++◌, ℕ}
 use Rattle.script_words.specs.Letters.{letters}
-use Rattle.script_words.specs.LentLaws.{Put}
+use Rattle.script_words.specs.LentLaws.{Put, joined}
 use Rattle.script_words.specs.Written.{decimal}
-use Rattle.script_words.specs.LentLaws.{joined}
 use Rattle.script_run.specs.declared.run.Run.{Run}
 use Rattle.script_run.specs.Run.{put_up_to, over}
 use Rattle.script_run.specs.Obeyed.{Held, Stepped, stopped}
